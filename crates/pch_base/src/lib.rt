@@ -1,0 +1,9 @@
+//! The values that every crate of the product shares: numbers both ways, lists of bits, names,
+//! literals, and clauses as sets.
+#![tactic(auto)]
+
+mod memory;
+mod name;
+
+pub use memory::NoMemory;
+pub use name::Name;

@@ -1,0 +1,4 @@
+pub mod LiteralLemmas
+pub mod ClauseLemmas
+pub mod Soundness
+pub mod Uniqueness

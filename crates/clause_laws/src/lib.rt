@@ -1,0 +1,12 @@
+//! The laws of clauses, resolution, traces and verdicts, whose definitions stand in `clause_defs`.
+//!
+//! Each function of this crate does nothing. Its contract is a law, which whoever calls it can rely
+//! on.
+#![tactic(auto)]
+
+mod laws;
+
+pub use laws::{
+    chain_end_is_unique, clauses_with_the_same_literals_are_equal, derived_clause_resolves,
+    original_clause_is_in_the_list, refutation_is_sound, verdict_is_unique,
+};

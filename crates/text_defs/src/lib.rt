@@ -6,4 +6,4 @@
 
 mod laws;
 
-pub use laws::spelling_is_unique;
+pub use laws::{number_in_is_spelled, spelling_is_unique};

@@ -1,0 +1,10 @@
+//! The combinational part of BLIF, as definitions that other crates speak of.
+//!
+//! `specs/Values` has the value of a text, `specs/Lines` its joined lines and their words,
+//! `specs/Grammar` what each line means and which fault comes first, `specs/Printing` the text of a
+//! value. They speak of plain lists and records.
+#![tactic(auto)]
+
+mod mark;
+
+pub use mark::{MAX_BYTES, MAX_PORTS, MAX_SIGNALS, Mark};

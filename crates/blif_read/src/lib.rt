@@ -1,0 +1,16 @@
+//! Designs in BLIF: the value of a text, reading and printing.
+//!
+//! `read_blif` answers the value of a text or its first fault, as `blif_defs` says what a text means.
+//! `print_blif` gives the text of a value, which is read again.
+#![tactic(auto)]
+
+mod blif;
+mod cover;
+mod names;
+mod row;
+
+pub use blif::Blif;
+pub use blif_defs::Mark;
+pub use cover::{Cover, Covers};
+pub use names::Names;
+pub use row::{Row, Rows};

@@ -1,0 +1,8 @@
+use Rattle.net_defs.proofs.AssignmentLemmas.{assignment_exists, assignment_is_unique}
+use Rattle.net_defs.proofs.laws.assignment_exists_and_is_unique.Goals as goal
+
+pub returns-clause-exists : goal.returns-clause-exists
+returns-clause-exists c = assignment_exists
+
+pub returns-clause-unique : goal.returns-clause-unique
+returns-clause-unique c = assignment_is_unique

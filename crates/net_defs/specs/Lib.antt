@@ -1,0 +1,6 @@
+pub mod Networks
+pub mod Settling
+pub mod Evaluation
+pub mod Nets
+pub mod Names
+pub mod NetOf

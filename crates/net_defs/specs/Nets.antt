@@ -1,0 +1,37 @@
+-- What every net keeps: it is within the limits, and the inputs determine each of its nodes.
+use Rattle.std.specs.Prelude.{ℕ, ◌+◌, ◌<◌, ◌≤◌, ◌≡◌, List, length, map, sum_by, All}
+use Rattle.std.specs.List.{IsDistinct}
+use Rattle.std.specs.Str.{bytes_eq}
+use Rattle.blif_defs.specs.declared.mark.Mark.{Mark}
+use Rattle.blif_defs.specs.declared.mark.TheConstants.{MAX_BYTES, MAX_PORTS, MAX_SIGNALS}
+use Rattle.net_defs.specs.Networks.{Node, Output, Network, signals}
+use Rattle.net_defs.specs.Settling.{IsAcyclic}
+
+-- the rows of all nodes
+abbrev pub row_count : Network → ℕ
+row_count net = sum_by (λ (node : Node). length node.rows) net.nodes
+
+-- the marks of rows, and two more for each row
+abbrev pub rows_size : List (List Mark) → ℕ
+rows_size rows = sum_by (λ row. length row + 2) rows
+
+abbrev pub output_names : Network → List (List ℕ)
+output_names net = map (λ (o : Output). o.name) net.outputs
+
+-- a node of a network with so many signals
+pub record IsNode (signal_count : ℕ) (node : Node) : Type 0 where
+  pub fan_ins_within : length node.fan_ins ≤ MAX_PORTS
+  pub fan_ins : All (λ s. s < signal_count) node.fan_ins
+  pub rows : All (λ row. length row ≡ length node.fan_ins) node.rows
+
+pub record IsNet (net : Network) : Type 0 where
+  pub inputs_within : length net.inputs ≤ MAX_PORTS
+  pub inputs_differ : IsDistinct bytes_eq net.inputs
+  pub outputs_some : 1 ≤ length net.outputs
+  pub outputs_within : length net.outputs ≤ MAX_PORTS
+  pub outputs_differ : IsDistinct bytes_eq (output_names net)
+  pub output_signals : All (λ (o : Output). o.signal < signals net) net.outputs
+  pub signals_within : signals net ≤ MAX_SIGNALS
+  pub nodes : All (IsNode (signals net)) net.nodes
+  pub rows_within : sum_by (λ (node : Node). rows_size node.rows) net.nodes ≤ MAX_BYTES
+  pub acyclic : IsAcyclic net

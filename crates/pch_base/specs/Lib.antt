@@ -1,2 +1,5 @@
-pub mod Lits
+pub mod BitLists
+pub mod BitWords
 pub mod LitCodes
+pub mod Lits
+pub mod Numbers

@@ -1,0 +1,9 @@
+use Rattle.sat_scan.proofs.ScanLemmas.{cnf_tokens_from-word, cnf_tokens_from-end}
+use Rattle.sat_scan.proofs.comments.next_cnf_word.Goals as goal
+
+pub returns-else-is_separator-clause-stands : goal.returns-else-is_separator-clause-stands
+returns-else-is_separator-clause-stands c = record {
+  within = c.loop-at.invariant.within;
+  word = λ h. cnf_tokens_from-word c.loop-at.at c.args.text.now h (cc);
+  end = λ h. cnf_tokens_from-end c.loop-at.at c.args.text.now h;
+}

@@ -1,0 +1,17 @@
+use Rattle.std.proofs.Common.{length, ◌-◌, ◌≡◌, ◌+◌, ◌<◌, ◌≤◌}
+use Rattle.sat_text_defs.specs.Spellings.{positive_in, digits_in}
+use Rattle.sat_scan.specs.Scan.{word_at}
+use Rattle.sat_scan.proofs.numbers.positive_at.Given as goal
+
+abbrev pub invariant-loop-end : goal.invariant-loop-end
+invariant-loop-end l = record {
+  behind : l.at < l.end;
+  within : l.end ≤ length l.text;
+  low : 1 ≤ l.value;
+  high : l.value ≤ l.max;
+  value : digits_in l.max l.value (word_at l.end l.text) ≡ positive_in l.max (word_at l.at l.text);
+  end : l.end + length (word_at l.end l.text) ≡ l.at + length (word_at l.at l.text);
+}
+
+abbrev pub decreases-loop-end : goal.decreases-loop-end
+decreases-loop-end l = length l.text - l.end

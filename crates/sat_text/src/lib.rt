@@ -1,0 +1,8 @@
+//! The values of a CNF and of a trace, and their texts: readers that answer the value or the first
+//! fault, and printers.
+#![tactic(auto)]
+
+mod errors;
+mod trace_clause;
+
+pub use errors::{CnfError, TraceError};

@@ -1,0 +1,48 @@
+ghost use Rattle.std.specs.Prelude.{◌≡◌, ◌<◌, ◌≤◌, length, IfOk};
+ghost use Rattle.sat_text_defs.specs.TraceReading.{literals_from, indices_from, clause_from};
+ghost use Rattle.sat_scan.specs.Scan.{tokens_from, IsAtWord};
+ghost use Rattle.sat_text.specs.Answers.{GivesTrace};
+
+use crate::errors::TraceError;
+use clause_defs::MAX_INDEX;
+use pch_base::Lit;
+use sat_scan::{is_zero_at, literal_at, next_word, positive_at};
+use sat_text_defs::MAX_TRACE_BYTES;
+
+/// Appends the literals from `from` on, up to the word `0`, and answers the place behind it.
+pub fn read_literals(text: &[u8], from: usize, lits: &mut Vec<Lit>) -> Result<usize, TraceError>
+    requires within { from ≤ length text.now }
+    requires short { length text.now ≤ MAX_TRACE_BYTES }
+    ensures exact { GivesTrace (λ next. (lits.new.items, tokens_from next text.now)) result (literals_from (length text.now) lits.old.items (tokens_from from text.now)) }
+    ensures later { IfOk result (λ next. from < next) }
+    ensures inside { IfOk result (λ next. next ≤ length text.now) }
+{
+    let mut at = next_word(text, from);
+    while !is_zero_at(text, at) {
+        let Some(word) = literal_at(text, at) else {
+            return Err(TraceError::Syntax { at: at as u32 });
+        };
+        lits.push(word.lit)?;
+        at = next_word(text, word.end);
+    }
+    Ok(at + 1)
+}
+
+/// Appends the indices from `from` on, up to the word `0`, and answers the place behind it.
+pub fn read_indices(text: &[u8], from: usize, indices: &mut Vec<u32>) -> Result<usize, TraceError>
+    requires within { from ≤ length text.now }
+    requires short { length text.now ≤ MAX_TRACE_BYTES }
+    ensures exact { GivesTrace (λ next. (indices.new.items, tokens_from next text.now)) result (indices_from (length text.now) indices.old.items (tokens_from from text.now)) }
+    ensures later { IfOk result (λ next. from < next) }
+    ensures inside { IfOk result (λ next. next ≤ length text.now) }
+{
+    let mut at = next_word(text, from);
+    while !is_zero_at(text, at) {
+        let Some(number) = positive_at(text, at, MAX_INDEX) else {
+            return Err(TraceError::Syntax { at: at as u32 });
+        };
+        indices.push(number.value)?;
+        at = next_word(text, number.end);
+    }
+    Ok(at + 1)
+}

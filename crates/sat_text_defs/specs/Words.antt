@@ -1,0 +1,23 @@
+-- The words of a CNF or a trace: what separates them, and what each spells. (DIMACS CNF, TraceCheck)
+use Rattle.std.specs.Prelude.{ℕ, Bool, ◌||◌, ◌==◌, List, [], ◌∷◌, map, decimal, if◌then◌else◌}
+use Rattle.clause_defs.specs.Literals.{Literal}
+use Rattle.text_defs.specs.Tokens.{Token}
+
+-- space, tab, carriage return and line feed separate tokens
+abbrev pub separates : ℕ → Bool
+separates b = (b == 32) || (b == 9) || (b == 13) || (b == 10)
+
+abbrev pub bytes_of : Token → List ℕ
+bytes_of t = t.bytes
+
+-- the words of a list of tokens
+abbrev pub words_of : List Token → List (List ℕ)
+words_of ts = map bytes_of ts
+
+-- the word that ends a list: the digit 0 alone
+abbrev pub zero_word : List ℕ
+zero_word = 48 ∷ []
+
+-- a literal is spelled by its variable, behind `-` where it is negative
+abbrev pub literal_word : Literal → List ℕ
+literal_word l = if l.positive then decimal l.variable else 45 ∷ decimal l.variable

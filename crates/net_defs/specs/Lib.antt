@@ -4,3 +4,4 @@ pub mod Evaluation
 pub mod Nets
 pub mod Names
 pub mod NetOf
+pub mod Interfaces

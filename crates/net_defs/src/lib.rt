@@ -3,11 +3,13 @@
 //! `specs/Networks` has the plain record of a network, `specs/Settling` the nodes that the inputs
 //! determine, and `specs/Evaluation` the bits of the signals and of the outputs. No order of
 //! evaluation is named. `specs/Nets` says what every net keeps, and `specs/NetOf` what network a
-//! BLIF design describes, or its first fault.
+//! BLIF design describes, or its first fault; `specs/Interfaces` which nets pair by their names.
 #![tactic(auto)]
 
 mod faults;
+mod interface;
 mod laws;
 
-pub use faults::{InterfaceError, NetError, Side};
+pub use faults::NetError;
+pub use interface::{InterfaceError, Side};
 pub use laws::{assignment_exists_and_is_unique, outputs_are_unique};

@@ -2,6 +2,7 @@ ghost use Rattle.std.specs.Prelude.{◌≡◌};
 ghost use Rattle.sat_text.specs.declared.errors.CnfError.TheVariants as cnf;
 ghost use Rattle.sat_text.specs.declared.errors.TraceError.TheVariants as trace;
 
+use pch_base::NoMemory;
 use std::alloc::{AllocError, AllocFailed};
 use thiserror::Error;
 
@@ -77,6 +78,22 @@ impl<T: Drop> From<AllocFailed<T>> for TraceError {
     ghost from_gives = { λ _ e. e ≡ trace.NoMemory };
 
     fn from(_error: AllocFailed<T>) -> TraceError {
+        TraceError::NoMemory
+    }
+}
+
+impl From<NoMemory> for CnfError {
+    ghost from_gives = { λ _ e. e ≡ cnf.NoMemory };
+
+    fn from(_error: NoMemory) -> CnfError {
+        CnfError::NoMemory
+    }
+}
+
+impl From<NoMemory> for TraceError {
+    ghost from_gives = { λ _ e. e ≡ trace.NoMemory };
+
+    fn from(_error: NoMemory) -> TraceError {
         TraceError::NoMemory
     }
 }

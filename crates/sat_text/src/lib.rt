@@ -2,7 +2,10 @@
 //! fault, and printers.
 #![tactic(auto)]
 
+mod cnf_clauses;
+mod cnf_header;
 mod errors;
+mod places;
 mod trace_clause;
 
 pub use errors::{CnfError, TraceError};

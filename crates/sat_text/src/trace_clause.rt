@@ -2,6 +2,7 @@ ghost use Rattle.std.specs.Prelude.{◌≡◌, ◌<◌, ◌≤◌, length, IfOk}
 ghost use Rattle.sat_text_defs.specs.TraceReading.{literals_from, indices_from, clause_from};
 ghost use Rattle.sat_scan.specs.Scan.{tokens_from, IsAtWord};
 ghost use Rattle.sat_text.specs.Answers.{GivesTrace};
+ghost use Rattle.sat_text.specs.Raw.{spelled_of};
 
 use crate::errors::TraceError;
 use clause_defs::MAX_INDEX;
@@ -45,4 +46,32 @@ pub fn read_indices(text: &[u8], from: usize, indices: &mut Vec<u32>) -> Result<
         at = next_word(text, number.end);
     }
     Ok(at + 1)
+}
+
+/// A clause as a text has it: its literals in any order and repeated or not, its antecedents by index.
+#[derive(Debug, Drop)]
+pub struct RawClause {
+    pub index: u32,
+    pub lits: Vec<Lit>,
+    pub antecedents: Vec<u32>,
+}
+
+/// Reads the clause whose index is the word at `at` in place of the one that is there, and answers the
+/// place behind it.
+pub fn read_clause(text: &[u8], at: usize, clause: &mut RawClause) -> Result<usize, TraceError>
+    requires within { at < length text.now }
+    requires stands { IsAtWord at text.now }
+    requires short { length text.now ≤ MAX_TRACE_BYTES }
+    ensures exact { GivesTrace (λ next. (spelled_of clause.new, tokens_from next text.now)) result (clause_from (length text.now) (tokens_from at text.now)) }
+    ensures later { IfOk result (λ next. at < next) }
+    ensures inside { IfOk result (λ next. next ≤ length text.now) }
+{
+    let Some(index) = positive_at(text, at, MAX_INDEX) else {
+        return Err(TraceError::Syntax { at: at as u32 });
+    };
+    clause.index = index.value;
+    clause.lits.clear();
+    clause.antecedents.clear();
+    let behind_lits = read_literals(text, index.end, &mut clause.lits)?;
+    read_indices(text, behind_lits, &mut clause.antecedents)
 }

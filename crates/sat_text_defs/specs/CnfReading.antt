@@ -1,6 +1,7 @@
 -- The CNF of a text, or its fault, computed from the tokens from left to right. (DIMACS CNF)
 use Rattle.std.specs.Prelude.{ℕ, Bool, true, false, ◌&&◌, ◌==◌, nat_lt, nat_le, List, [], ◌∷◌, ◌++◌, length, drop, ok_or, Result, Ok, Err, if◌then◌else◌}
 use Rattle.clause_defs.specs.declared.verdict.TheConstants.{MAX_VARIABLE, MAX_CLAUSES}
+use Rattle.clause_defs.specs.Literals.{Literal}
 use Rattle.clause_defs.specs.Clauses.{Lits}
 use Rattle.text_defs.specs.Tokens.{Token}
 use Rattle.sat_text_defs.specs.declared.fault.TheConstants.{MAX_CNF_BYTES}
@@ -58,6 +59,11 @@ header_in end line ts =
 
 -- ---- the clauses
 
+-- the literal that a token spells, over these variables
+abbrev pub literal_within : ℕ → Token → Result Literal CnfFault
+literal_within variables t =
+    ok_or (literal_in t.bytes) (Syntax t.at) >>= λ l. (if nat_le l.variable variables then Ok l else Err (VarRange t.at))
+
 -- the clauses behind those read so far, where ls are the literals of a clause that is open
 abbrev pub clauses_from : ℕ → ℕ → List Token → List Lits → Lits → Result (List Lits) CnfFault
 clauses_from variables end [] fs [] = Ok fs
@@ -65,8 +71,7 @@ clauses_from variables end [] fs (l ∷ ls) = Err (Syntax end)
 clauses_from variables end (t ∷ ts) fs ls =
     if is_zero t.bytes
     then clauses_from variables end ts (fs ++ clause_of ls ∷ []) []
-    else (ok_or (literal_in t.bytes) (Syntax t.at) >>= λ l.
-    (if nat_le l.variable variables then clauses_from variables end ts fs (ls ++ l ∷ []) else Err (VarRange t.at)))
+    else (literal_within variables t >>= λ l. clauses_from variables end ts fs (ls ++ l ∷ []))
 
 -- the clauses, if there are as many as the header says
 abbrev pub counted : ℕ → ℕ → List Lits → Result Formula CnfFault

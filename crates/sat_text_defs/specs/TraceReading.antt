@@ -1,5 +1,5 @@
 -- The trace of a text, or its fault, computed from the tokens from left to right. (TraceCheck)
-use Rattle.std.specs.Prelude.{ℕ, ◌==◌, nat_lt, List, [], ◌∷◌, ◌++◌, length, map, Option, is_some, ok_or, Result, Ok, Err, position, if◌then◌else◌}
+use Rattle.std.specs.Prelude.{ℕ, ◌==◌, nat_lt, List, [], ◌∷◌, ◌++◌, length, map, Option, is_some, ok_or, Result, Ok, Err, None, Some, ◌+◌, if◌then◌else◌}
 use Rattle.clause_defs.specs.Clauses.{Lits}
 use Rattle.clause_defs.specs.Traces.{Entry}
 use Rattle.text_defs.specs.Tokens.{Token, tokens}
@@ -44,9 +44,14 @@ clause_from end (t ∷ ts) =
 
 -- ---- its judgement
 
+-- the first place, counted from k on, where x stands in the list
+abbrev pub place_from : ℕ → List ℕ → ℕ → Option ℕ
+place_from k [] x = None
+place_from k (y ∷ ys) x = if y == x then Some k else place_from (k + 1) ys x
+
 -- the place of the first clause with this index
 abbrev pub place_of : List ℕ → ℕ → Option ℕ
-place_of indices x = position (λ y. y == x) indices
+place_of indices x = place_from 0 indices x
 
 -- the places of these indices behind those found so far, or the first index that no clause has
 abbrev pub places_from : List ℕ → List ℕ → List ℕ → Result (List ℕ) ℕ

@@ -7,5 +7,7 @@
 #![tactic(auto)]
 
 mod fault;
+mod laws;
 
 pub use fault::{CnfFault, MAX_CNF_BYTES, MAX_TRACE_BYTES, TraceFault};
+pub use laws::clause_of_a_list;

@@ -1,0 +1,9 @@
+use Rattle.std.proofs.Common.{◌∙◌, sym}
+use Rattle.sat_text.proofs.PlaceLemmas.{places_from-next}
+use Rattle.sat_text.proofs.places.Places.find_all.Goals as goal
+
+pub loop-index-preserved : goal.loop-index-preserved
+loop-index-preserved c =
+    rw c.in_ok-push.ensures.items
+    (sym (places_from-next c.args.self.now c.loop-index.found.items c.args.indices.now c.loop-index.index-index c.in-Some.place c.loop-index-test.true (sym c.in-Some.ensures))
+    ∙ c.loop-index.invariant)

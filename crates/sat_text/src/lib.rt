@@ -9,3 +9,4 @@ mod places;
 mod trace_clause;
 
 pub use errors::{CnfError, TraceError};
+pub use sat_values::{ClauseSet, Clauses, Cnf, Trace};

@@ -5,6 +5,8 @@
 //! value. They speak of plain lists and records.
 #![tactic(auto)]
 
+mod kind;
 mod mark;
 
+pub use kind::LineKind;
 pub use mark::{MAX_BYTES, MAX_PORTS, MAX_SIGNALS, Mark};

@@ -6,11 +6,19 @@
 
 mod blif;
 mod cover;
+mod cover_row;
+mod error;
+mod kind;
+mod line;
 mod names;
+mod read;
+mod reader;
 mod row;
 
 pub use blif::Blif;
 pub use blif_defs::Mark;
 pub use cover::{Cover, Covers};
+pub use error::BlifError;
 pub use names::Names;
+pub use read::read_blif;
 pub use row::{Row, Rows};

@@ -1,9 +1,10 @@
-ghost use Rattle.std.specs.Prelude.{◌≡◌, List, IfOk};
+ghost use Rattle.std.specs.Prelude.{◌≡◌, List, [], ◌∷◌, ◌++◌, length, map, IfOk, OnOk};
 ghost use Rattle.blif_defs.specs.declared.mark.Mark.{Mark};
+ghost use Rattle.blif_defs.specs.Rows.{mark_of};
 
 use blif_defs::Mark;
 use pch_base::NoMemory;
-use std::alloc::Global;
+use std::alloc::{AllocError, Global};
 use std::marker::Model;
 
 /// A row of a cover: one mark for each of its inputs. Contracts see it as the list of the marks.
@@ -28,11 +29,31 @@ impl Row {
         Ok(Row { marks })
     }
 
+    /// The row that these bytes spell, each of which is `0`, `1` or `-`.
+    pub(crate) fn from_bytes(alloc: Global, word: &[u8]) -> Result<Row, AllocError>
+        ensures { IfOk result (λ r. r ≡ map mark_of word.now) }
+    {
+        let marks = word.iter().map(|b| mark_of(*b)).collect(alloc)?;
+        Ok(Row { marks })
+    }
+
     /// The marks of the row.
     pub fn marks(&self) -> &[Mark]
         ensures { result.now ≡ self.now }
     {
         &self.marks
+    }
+}
+
+fn mark_of(b: u8) -> Mark
+    ensures { result ≡ mark_of b }
+{
+    if b == b'0' {
+        Mark::Zero
+    } else if b == b'1' {
+        Mark::One
+    } else {
+        Mark::Any
     }
 }
 
@@ -69,5 +90,13 @@ impl Rows {
         ensures { result.now ≡ self.now }
     {
         &self.list
+    }
+
+    /// Appends a row.
+    pub(crate) fn push(&mut self, row: Row) -> Result<(), AllocError>
+        ensures { OnOk result (self.new ≡ self.old ++ row ∷ []) }
+    {
+        self.list.push(row)?;
+        Ok(())
     }
 }

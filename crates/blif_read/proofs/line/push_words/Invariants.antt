@@ -1,0 +1,10 @@
+use Rattle.std.proofs.Common.{◌≡◌, ◌++◌, length}
+use Rattle.blif_defs.specs.Words.{words}
+use Rattle.blif_read.specs.Views.{texts}
+use Rattle.blif_read.proofs.line.push_words.Given as goal
+
+abbrev pub invariant-loop-rest : goal.invariant-loop-rest
+invariant-loop-rest l = texts l.list.items ++ words l.rest ≡ texts l.fn.list.items ++ words l.line
+
+abbrev pub decreases-loop-rest : goal.decreases-loop-rest
+decreases-loop-rest l = length l.rest

@@ -5,3 +5,5 @@ pub mod Faults
 pub mod Drafts
 pub mod Rows
 pub mod Grammar
+pub mod Texts
+pub mod Printing

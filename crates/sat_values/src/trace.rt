@@ -1,4 +1,4 @@
-ghost use Rattle.std.specs.Prelude.{◌≡◌, ◌≢◌, ℕ, ◌<◌, ◌≤◌, ◌++◌, [], ◌∷◌, length, max, OnOk, OnErr};
+ghost use Rattle.std.specs.Prelude.{◌≡◌, ◌≢◌, ℕ, ◌^◌, ◌<◌, ◌≤◌, ◌++◌, [], ◌∷◌, length, max, OnOk, OnErr};
 ghost use Rattle.clause_defs.specs.Literals.{Literal, IsLiteral};
 ghost use Rattle.clause_defs.specs.Clauses.{Has, IsOrdered, IsClause, WithinVariables};
 ghost use Rattle.clause_defs.specs.Traces.{IsTrace, index_at, lits_at, antecedents_at};
@@ -77,7 +77,9 @@ impl Trace {
         requires { k < length self.now }
         ensures antecedents { result.now ≡ antecedents_at self.now k }
         ensures earlier { (p : ℕ) → Has result.now p → p < k }
+        ensures few { length result.now < 2 ^ 32 }
     {
+        let _total = self.antecedents.total();
         self.antecedents.get(k)
     }
 

@@ -1,0 +1,5 @@
+pub mod MarkLemmas
+pub mod KeptLemmas
+pub mod ClauseLists
+pub mod StepLemmas
+pub mod ChainLemmas

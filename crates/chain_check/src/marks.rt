@@ -1,0 +1,265 @@
+ghost use Rattle.std.specs.Prelude.{◌≡◌, ◌≢◌, ℕ, ◌+◌, ◌-◌, ◌^◌, ◌<◌, ◌≤◌, ◌↔◌, ◌⊎◌, [], length, IfOk, IsTrue};
+ghost use Rattle.std.specs.Bool.{OnTrue, OnFalse};
+ghost use Rattle.clause_defs.specs.Literals.{Literal};
+ghost use Rattle.clause_defs.specs.Clauses.{Has, SameSet, IsOrdered, WithinVariables};
+ghost use Rattle.chain_check.specs.Steps.{StepGives};
+
+use pch_base::{Lit, NoMemory};
+use std::alloc::Global;
+use std::marker::Model;
+
+/// Room for the running clause of a chain, over the variables from 1 to a greatest one.
+///
+/// Each literal has a number. It stands in the running clause where its number isn't below the
+/// chain's first number, so a chain starts without a look at the literals of the one before. Within
+/// a chain each step has the next number, by which it tells the literals that it adds from those
+/// that were there.
+#[derive(Drop)]
+pub struct Marks {
+    variables: u32,
+    numbers: Vec<u32>,
+    first: u64,
+    current: u64,
+    count: usize,
+}
+
+impl Model for Marks {
+    ghost use Rattle.std.specs.Prelude.{◌-◌, ◌^◌};
+    ghost use Rattle.chain_check.specs.Marks.{Marked, literals_where, is_running, is_fresh, IsKept};
+
+    ghost Value = { Marked };
+
+    ghost view = {
+        λ m. record {
+            variables = m.variables;
+            running = literals_where (is_running m.first m.current) 0 m.numbers.items;
+            fresh = literals_where (is_fresh m.current) 0 m.numbers.items;
+            left = 2 ^ 32 - m.current;
+        }
+    };
+
+    ghost invariant = { λ m. IsKept m.variables m.numbers.items m.first m.current m.count };
+}
+
+// The numbers of literals are below this one.
+const NUMBERS: u64 = 1 << 32;
+
+/// Where the literals of a running clause clash with another clause.
+#[derive(Clone, Copy, Debug, PartialEq, Eq)]
+pub(crate) enum Clash {
+    /// No literal does.
+    Nowhere,
+    /// One literal does.
+    Once,
+    /// Two or more literals do.
+    Often,
+}
+
+impl Marks {
+    /// Marks for literals up to this variable.
+    pub fn new(alloc: Global, variables: u32) -> Result<Marks, NoMemory>
+        ensures { IfOk result (λ m. m.variables ≡ variables) }
+    {
+        let numbers = vec![in alloc; 0; 2 * variables as usize + 2]?;
+        Ok(Marks {
+            variables,
+            numbers,
+            first: 1,
+            current: 1,
+            count: 0,
+        })
+    }
+
+    /// Empties the running clause, with numbers for this many steps.
+    pub(crate) fn clear(&mut self, steps: u32)
+        ensures variables { self.new.variables ≡ self.old.variables }
+        ensures running { self.new.running ≡ [] }
+        ensures fresh { self.new.fresh ≡ [] }
+        ensures left { steps ≤ self.new.left }
+    {
+        if self.current >= NUMBERS - u64::from(steps) {
+            return self.reset();
+        }
+        self.current += 1;
+        self.first = self.current;
+        self.count = 0;
+    }
+
+    /// Empties the running clause and begins the numbers anew.
+    fn reset(&mut self)
+        ensures variables { self.new.variables ≡ self.old.variables }
+        ensures running { self.new.running ≡ [] }
+        ensures fresh { self.new.fresh ≡ [] }
+        ensures left { self.new.left ≡ 2 ^ 32 - 1 }
+    {
+        self.numbers.fill(0);
+        self.first = 1;
+        self.current = 1;
+        self.count = 0;
+    }
+
+    /// Whether the literal stands in the running clause.
+    fn holds(&self, l: Lit) -> bool
+        requires { l.variable ≤ self.now.variables }
+        ensures { IsTrue result ↔ Has self.now.running l }
+    {
+        let number = u64::from(self.numbers[l.code() as usize]);
+        self.first <= number && number < self.current
+    }
+
+    /// Adds a literal in the step in work, and says whether it is new.
+    fn add(&mut self, l: Lit) -> bool
+        requires within { l.variable ≤ self.old.variables }
+        requires room { 0 < self.old.left }
+        ensures variables { self.new.variables ≡ self.old.variables }
+        ensures running { self.new.running ≡ self.old.running }
+        ensures left { self.new.left ≡ self.old.left }
+        ensures fresh {
+            (x : Literal)
+            → Has self.new.fresh x ↔ (Has self.old.fresh x ⊎ ((x ≡ l) × (Has self.old.running x → ⊥)))
+        }
+        ensures new { OnTrue result (length self.new.fresh ≡ length self.old.fresh + 1) }
+        ensures new_to_running { OnTrue result (Has self.old.running l → ⊥) }
+        ensures there { OnFalse result (length self.new.fresh ≡ length self.old.fresh) }
+    {
+        let place = l.code() as usize;
+        let number = u64::from(self.numbers[place]);
+        if number >= self.first {
+            return false;
+        }
+        self.numbers[place] = self.current as u32;
+        true
+    }
+
+    /// Puts what the step adds, which is this many literals, into the running clause.
+    fn settle(&mut self, added: usize)
+        requires counted { added ≡ length self.old.fresh }
+        requires room { 0 < self.old.left }
+        ensures variables { self.new.variables ≡ self.old.variables }
+        ensures running {
+            (x : Literal) → Has self.new.running x ↔ (Has self.old.running x ⊎ Has self.old.fresh x)
+        }
+        ensures fresh { self.new.fresh ≡ [] }
+        ensures left { self.new.left + 1 ≡ self.old.left }
+    {
+        self.count += added;
+        self.current += 1;
+    }
+
+    /// Takes a literal out of the running clause, and says whether it stood there.
+    fn remove(&mut self, l: Lit) -> bool
+        requires within { l.variable ≤ self.old.variables }
+        requires between_steps { self.old.fresh ≡ [] }
+        ensures variables { self.new.variables ≡ self.old.variables }
+        ensures running {
+            (x : Literal) → Has self.new.running x ↔ (Has self.old.running x × (x ≢ l))
+        }
+        ensures fresh { self.new.fresh ≡ [] }
+        ensures left { self.new.left ≡ self.old.left }
+        ensures found { IsTrue result ↔ Has self.old.running l }
+    {
+        let place = l.code() as usize;
+        let number = u64::from(self.numbers[place]);
+        if number < self.first {
+            return false;
+        }
+        self.numbers[place] = 0;
+        self.count -= 1;
+        true
+    }
+
+    /// Whether no literal stands in the running clause.
+    fn is_empty(&self) -> bool
+        ensures { IsTrue result ↔ (self.now.running ≡ []) }
+    {
+        self.count == 0
+    }
+
+    /// Makes a clause the running clause, where there is none.
+    pub(crate) fn load(&mut self, c: &[Lit])
+        requires within { WithinVariables self.old.variables c.now }
+        requires empty { self.old.running ≡ [] }
+        requires between_steps { self.old.fresh ≡ [] }
+        requires room { 0 < self.old.left }
+        ensures variables { self.new.variables ≡ self.old.variables }
+        ensures running { SameSet self.new.running c.now }
+        ensures fresh { self.new.fresh ≡ [] }
+        ensures left { self.new.left + 1 ≡ self.old.left }
+    {
+        let mut added = 0;
+        for &l in c {
+            if self.add(l) {
+                added += 1;
+            }
+        }
+        self.settle(added);
+    }
+
+    /// Resolves the running clause with another clause, where one literal clashes.
+    pub(crate) fn resolve(&mut self, c: &[Lit]) -> Clash
+        requires within { WithinVariables self.old.variables c.now }
+        requires between_steps { self.old.fresh ≡ [] }
+        requires room { 0 < self.old.left }
+        ensures variables { self.new.variables ≡ self.old.variables }
+        ensures step { StepGives self.old.running c.now result self.new.running }
+        ensures fresh { result ≡ Clash.Once → self.new.fresh ≡ [] }
+        ensures left { result ≡ Clash.Once → self.new.left + 1 ≡ self.old.left }
+    {
+        let mut pivot = None;
+        let mut added = 0;
+        for &l in c {
+            let opposite = l.negated();
+            if !self.holds(opposite) {
+                if self.add(l) {
+                    added += 1;
+                }
+                continue;
+            }
+            match pivot {
+                None => pivot = Some(opposite),
+                Some(other) => {
+                    if other != opposite {
+                        return Clash::Often;
+                    }
+                }
+            }
+        }
+        self.settle(added);
+        let Some(pivot) = pivot else {
+            return Clash::Nowhere;
+        };
+        if !has(c, pivot) {
+            self.remove(pivot);
+        }
+        Clash::Once
+    }
+
+    /// Whether the running clause is this one, as a set. Of the running clause only what isn't in
+    /// the other clause is left.
+    pub(crate) fn takes_out(&mut self, c: &[Lit]) -> bool
+        requires within { WithinVariables self.old.variables c.now }
+        requires ordered { IsOrdered c.now }
+        requires between_steps { self.old.fresh ≡ [] }
+        ensures variables { self.new.variables ≡ self.old.variables }
+        ensures same { IsTrue result ↔ SameSet self.old.running c.now }
+    {
+        for &l in c {
+            if !self.remove(l) {
+                return false;
+            }
+        }
+        self.is_empty()
+    }
+}
+
+/// Whether the literal stands in the clause.
+fn has(c: &[Lit], l: Lit) -> bool
+    ensures { IsTrue result ↔ Has c.now l }
+{
+    for &m in c {
+        if m == l {
+            return true;
+        }
+    }
+    false
+}

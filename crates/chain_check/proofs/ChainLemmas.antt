@@ -1,5 +1,5 @@
 -- How a chain begins, and how it goes on.
-use Rattle.std.proofs.Common.{◌≡◌, ℕ, ◌+◌, ◌<◌, ◌⊎◌, inl, inr, List, [], ◌∷◌, length, get_or, map, drop, Result, Err, refl, sym, ap, ◌∙◌, subst, arith}
+use Rattle.std.proofs.Common.{◌≡◌, ℕ, ◌<◌, inl, inr, List, [], ◌∷◌, length, get_or, map, drop, Result, Err, refl, sym, subst, arith}
 use Rattle.std.proofs.lemmas.List.{drop_more, get_or_default}
 use Rattle.clause_defs.specs.Clauses.{Lits, Has, SameSet}
 use Rattle.clause_defs.specs.Resolution.{Step, NoneClashes, SeveralClash}
@@ -24,8 +24,10 @@ step_same r q c s same step = record {
   pivot = step.pivot;
   clashes = ((same step.pivot).0 step.clashes.0, step.clashes.1);
   only = λ l h. step.only l ((same l).1 h.0, h.1);
-  resolvent = λ l. (λ h. elim ((step.resolvent l).0 h) [ inl k ↦ inl ((same l).0 k.0, k.1) | inr k ↦ inr k ],
-    λ h. (step.resolvent l).1 (elim h [ inl k ↦ inl ((same l).1 k.0, k.1) | inr k ↦ inr k ]));
+  resolvent = λ l. (
+    λ h. elim ((step.resolvent l).0 h) [ inl k ↦ inl ((same l).0 k.0, k.1) | inr k ↦ inr k ],
+    λ h. (step.resolvent l).1 (elim h [ inl k ↦ inl ((same l).1 k.0, k.1) | inr k ↦ inr k ]),
+  );
 }
 
 -- a chain goes on alike from two running clauses that are the same set

@@ -1,7 +1,7 @@
 -- What a loop over a clause has seen of it.
-use Rattle.std.proofs.Common.{◌≡◌, ◌≢◌, ℕ, zero, suc, ◌+◌, ◌<◌, ◌≤◌, ◌↔◌, ◌⊎◌, inl, inr, Bool, true, false, not, List, [], ◌∷◌, length, get_or, take, refl, sym, ◌∙◌, ap, subst, arith, add-one}
+use Rattle.std.proofs.Common.{◌≡◌, ◌≢◌, ℕ, zero, suc, ◌+◌, ◌<◌, ◌↔◌, ◌⊎◌, inl, inr, Bool, true, false, not, List, [], ◌∷◌, length, get_or, take, refl, sym, ◌∙◌, ap, arith, add-one}
 use Rattle.clause_defs.specs.Literals.{Literal, negation, code}
-use Rattle.clause_defs.specs.Clauses.{Lits, Has, SameSet, IsOrdered}
+use Rattle.clause_defs.specs.Clauses.{Lits, Has, IsOrdered}
 use Rattle.clause_laws.proofs.LiteralLemmas.{literal_cases, negation-negation}
 
 Has-take_suc : {X : Type 0} (xs : List X) (i : ℕ) (x y : X) → i < length xs → x ≡ get_or xs i x
@@ -10,13 +10,16 @@ Has-take_suc [] i x y lt e = absurd (omega arith)
 Has-take_suc (z ∷ zs) zero x y lt e =
     (λ h. elim h [ inl k ↦ inr (e ∙ k) | inr k ↦ absurd k ], λ h. elim h [ inl k ↦ absurd k | inr k ↦ inl (sym e ∙ k) ])
 Has-take_suc (z ∷ zs) (suc i) x y lt e =
-    let rest = Has-take_suc zs i x y (omega arith) e in
-    (λ h. elim h [
-      inl k ↦ inl (inl k)
-    | inr k ↦ elim (rest.0 k) [ inl m ↦ inl (inr m) | inr m ↦ inr m ] ],
-    λ h. elim h [
-      inl k ↦ elim k [ inl m ↦ inl m | inr m ↦ inr (rest.1 (inl m)) ]
-    | inr k ↦ inr (rest.1 (inr k)) ])
+    let rest = Has-take_suc zs i x y (omega arith) e in (
+      λ h. elim h [
+        | inl k ↦ inl (inl k)
+        | inr k ↦ elim (rest.0 k) [ inl m ↦ inl (inr m) | inr m ↦ inr m ]
+      ],
+      λ h. elim h [
+        | inl k ↦ elim k [ inl m ↦ inl m | inr m ↦ inr (rest.1 (inl m)) ]
+        | inr k ↦ inr (rest.1 (inr k))
+      ],
+    )
 
 -- one more element
 pub Has-take_more : {X : Type 0} (xs : List X) (i : ℕ) (x y : X) → i < length xs → x ≡ get_or xs i x
@@ -39,8 +42,9 @@ pub has_cases : (c : Lits) (l : Literal) → Has c l ⊎ (Has c l → ⊥)
 has_cases [] l = inr (λ h. h)
 has_cases (m ∷ ms) l =
     elim (literal_cases m l) [
-      inl e ↦ inl (inl e)
-    | inr ne ↦ elim (has_cases ms l) [ inl h ↦ inl (inr h) | inr n ↦ inr (λ h. elim h [ inl e ↦ ne e | inr k ↦ n k ]) ] ]
+      | inl e ↦ inl (inl e)
+      | inr ne ↦ elim (has_cases ms l) [ inl h ↦ inl (inr h) | inr n ↦ inr (λ h. elim h [ inl e ↦ ne e | inr k ↦ n k ]) ]
+    ]
 
 -- an ordered clause has no literal twice
 pub take-distinct : (c : Lits) (i : ℕ) (l : Literal) → IsOrdered c → i < length c → l ≡ get_or c i l → Has (take i c) l → ⊥
@@ -58,9 +62,9 @@ negation_swap l m e = sym (negation-negation l) ∙ ap negation e
 pub not_own_negation : (l : Literal) → l ≢ negation l
 not_own_negation l e = at_sign l.positive (ap (λ (m : Literal). m.positive) e)
   where
-  at_sign : (b : Bool) → b ≢ not b
-  at_sign true h = cc
-  at_sign false h = cc
+    at_sign : (b : Bool) → b ≢ not b
+    at_sign true h = cc
+    at_sign false h = cc
 
 -- a list without members is empty
 pub none_from : (c : Lits) → ((l : Literal) → Has c l → ⊥) → c ≡ []

@@ -1,6 +1,6 @@
 -- How a write to one number, or a new number for the step, changes what the marks hold.
-use Rattle.std.proofs.Common.{◌≡◌, ◌≢◌, ℕ, ◌+◌, ◌-◌, ◌*◌, ◌<◌, ◌≤◌, ◌↔◌, ◌⊎◌, inl, inr, Bool, true, false, if◌then◌else◌, ◌&&◌, nat_le, nat_lt, ◌==◌, List, [], length, get_or, set, replicate, refl, sym, ◌∙◌, ap, subst, arith, length-set, get_or-set_same, get_or-set_other}
-use Rattle.std.proofs.lemmas.Bool.{cases_Bool, cases_eq, cases_lt, true≢false}
+use Rattle.std.proofs.Common.{◌≡◌, ◌≢◌, ℕ, ◌+◌, ◌-◌, ◌*◌, ◌<◌, ◌≤◌, ◌↔◌, ◌⊎◌, inl, inr, Bool, true, false, if◌then◌else◌, List, [], length, get_or, set, replicate, refl, sym, ◌∙◌, ap, subst, arith, length-set, get_or-set_same, get_or-set_other}
+use Rattle.std.proofs.lemmas.Bool.{cases_eq, cases_lt}
 use Rattle.std.proofs.lemmas.Bool.Decides.{nat_tests}
 use Rattle.std.proofs.lemmas.List.{length-replicate, get_or_read, get_or-replicate, get_or_past}
 use Rattle.clause_defs.specs.Literals.{Literal, code}
@@ -11,9 +11,9 @@ use Rattle.chain_check.proofs.MarkLemmas.{one_if, Has-literals_where, Has-set_pa
 code_within : (l : Literal) (variables : ℕ) → l.variable ≤ variables → code l < 2 * variables + 2
 code_within l variables h = at_sign l.variable l.positive h
   where
-  at_sign : (v : ℕ) (b : Bool) → v ≤ variables → 2 * v + (if b then 1 else 0) < 2 * variables + 2
-  at_sign v true k = omega arith
-  at_sign v false k = omega arith
+    at_sign : (v : ℕ) (b : Bool) → v ≤ variables → 2 * v + (if b then 1 else 0) < 2 * variables + 2
+    at_sign v true k = omega arith
+    at_sign v false k = omega arith
 
 running_true : (first current n : ℕ) → first ≤ n → n < current → is_running first current n ≡ true
 running_true first current n h k = grind (arith, nat_tests)
@@ -41,22 +41,27 @@ none_later_set : (ns : List ℕ) (place n current : ℕ) → n ≤ current → (
     → (k : ℕ) → get_or (set ns place n) k 0 ≤ current
 none_later_set ns place n current small all k =
     elim (cases_eq k place) [
-      inr ne ↦ subst (λ m. m ≤ current) (sym (get_or-set_other ns place k n 0 ne)) (all k)
-    | inl e ↦ elim (cases_lt k (length ns)) [
-        inl lt ↦ subst (λ m. m ≤ current) (sym (ap (λ j. get_or (set ns place n) j 0) e ∙ get_or-set_same ns place n 0 (omega arith))) small
-      | inr past ↦ subst (λ m. m ≤ current) (sym (get_or_past (set ns place n) k 0 (let len = length-set ns place n in omega arith))) (omega arith) ] ]
+      | inr ne ↦ subst (λ m. m ≤ current) (sym (get_or-set_other ns place k n 0 ne)) (all k)
+      | inl e ↦ elim (cases_lt k (length ns)) [
+        | inl lt ↦ subst (λ m. m ≤ current) (sym (ap (λ j. get_or (set ns place n) j 0) e ∙ get_or-set_same ns place n 0 (omega arith))) small
+        | inr past ↦ subst (λ m. m ≤ current) (sym (get_or_past (set ns place n) k 0 (let len = length-set ns place n in omega arith))) (omega arith)
+      ]
+    ]
 
 module _ (variables : ℕ) (ns : List ℕ) (first current count : ℕ) (kept : IsKept variables ns first current count) where
   -- the next step's number makes the step's literals part of the running clause
   running_next : (n : ℕ) → one_if (is_running first (current + 1) n) ≡ one_if (is_running first current n) + one_if (is_fresh current n)
   running_next n =
       elim (cases_lt n first) [
-        inl low ↦ rw (running_below first (current + 1) n low, running_below first current n low, fresh_false current n (λ e. let o : first ≤ current = kept.in_order in absurd (omega arith))) refl
-      | inr high ↦ elim (cases_lt n current) [
-          inl before ↦ rw (running_true first (current + 1) n high (omega arith), running_true first current n high before, fresh_false current n (λ e. absurd (omega arith))) refl
-        | inr at_or_after ↦ elim (cases_eq n current) [
-            inl e ↦ rw (running_true first (current + 1) n high (omega arith), running_above first current n at_or_after, fresh_true current n e) refl
-          | inr ne ↦ rw (running_above first (current + 1) n (omega arith), running_above first current n at_or_after, fresh_false current n ne) refl ] ] ]
+        | inl low ↦ rw (running_below first (current + 1) n low, running_below first current n low, fresh_false current n (λ e. let o : first ≤ current = kept.in_order in absurd (omega arith))) refl
+        | inr high ↦ elim (cases_lt n current) [
+          | inl before ↦ rw (running_true first (current + 1) n high (omega arith), running_true first current n high before, fresh_false current n (λ e. absurd (omega arith))) refl
+          | inr at_or_after ↦ elim (cases_eq n current) [
+            | inl e ↦ rw (running_true first (current + 1) n high (omega arith), running_above first current n at_or_after, fresh_true current n e) refl
+            | inr ne ↦ rw (running_above first (current + 1) n (omega arith), running_above first current n at_or_after, fresh_false current n ne) refl
+          ]
+        ]
+      ]
 
   -- no number is the next one
   pub fresh_next : literals_where (is_fresh (current + 1)) 0 ns ≡ []
@@ -101,20 +106,23 @@ module _ (variables : ℕ) (ns : List ℕ) (first current count : ℕ) (kept : I
 
     -- the running clause after the step has the literals that were there and those that the step added
     pub Has-settled : (x : Literal) → Has (literals_where (is_running first (current + 1)) 0 ns) x ↔ (Has r x ⊎ Has f x)
-    Has-settled x =
-        (λ h. let p = (Has-literals_where (is_running first (current + 1)) ns x).0 h in
+    Has-settled x = (
+      λ h. let p = (Has-literals_where (is_running first (current + 1)) ns x).0 h in
           let w = running_within first (current + 1) (get_or ns (code x) 0) p.1 in
           elim (cases_eq (get_or ns (code x) 0) current) [
-            inl e ↦ inr (subst (λ c. Has c x) is_f ((Has-literals_where (is_fresh current) ns x).1 (p.0, fresh_true current (get_or ns (code x) 0) e)))
-          | inr ne ↦ inl (subst (λ c. Has c x) is_r ((Has-literals_where (is_running first current) ns x).1 (p.0, running_true first current (get_or ns (code x) 0) w.0 (omega (arith, w.1))))) ],
-        λ h. elim h [
-          inl k ↦ let p = (Has-literals_where (is_running first current) ns x).0 (subst (λ c. Has c x) (sym is_r) k) in
+            | inl e ↦ inr (subst (λ c. Has c x) is_f ((Has-literals_where (is_fresh current) ns x).1 (p.0, fresh_true current (get_or ns (code x) 0) e)))
+            | inr ne ↦ inl (subst (λ c. Has c x) is_r ((Has-literals_where (is_running first current) ns x).1 (p.0, running_true first current (get_or ns (code x) 0) w.0 (omega (arith, w.1)))))
+          ],
+      λ h. elim h [
+        | inl k ↦ let p = (Has-literals_where (is_running first current) ns x).0 (subst (λ c. Has c x) (sym is_r) k) in
             let w = running_within first current (get_or ns (code x) 0) p.1 in
             (Has-literals_where (is_running first (current + 1)) ns x).1 (p.0, running_true first (current + 1) (get_or ns (code x) 0) w.0 (omega (arith, w.1)))
         | inr k ↦ let p = (Has-literals_where (is_fresh current) ns x).0 (subst (λ c. Has c x) (sym is_f) k) in
             let e = fresh_is current (get_or ns (code x) 0) p.1 in
             let o : first ≤ current = kept.in_order in
-            (Has-literals_where (is_running first (current + 1)) ns x).1 (p.0, running_true first (current + 1) (get_or ns (code x) 0) (omega arith) (omega arith)) ])
+            (Has-literals_where (is_running first (current + 1)) ns x).1 (p.0, running_true first (current + 1) (get_or ns (code x) 0) (omega arith) (omega arith))
+      ],
+    )
 
     module _ (l : Literal) (within : l.variable ≤ variables) (place n : ℕ) (at : place ≡ code l) (read : n ≡ get_or ns place n) where
       inside : code l < length ns
@@ -128,9 +136,10 @@ module _ (variables : ℕ) (ns : List ℕ) (first current count : ℕ) (kept : I
 
       -- the running clause has the literal where its number is in the chain's range
       pub Has-running : Has r l ↔ ((first ≤ n) × (n < current))
-      Has-running =
-          (λ h. running_within first current n (ap (is_running first current) (sym number_is) ∙ ((Has-literals_where (is_running first current) ns l).0 (subst (λ c. Has c l) (sym is_r) h)).1),
-          λ h. subst (λ c. Has c l) is_r ((Has-literals_where (is_running first current) ns l).1 (inside, ap (is_running first current) number_is ∙ running_true first current n h.0 h.1)))
+      Has-running = (
+        λ h. running_within first current n (ap (is_running first current) (sym number_is) ∙ ((Has-literals_where (is_running first current) ns l).0 (subst (λ c. Has c l) (sym is_r) h)).1),
+        λ h. subst (λ c. Has c l) is_r ((Has-literals_where (is_running first current) ns l).1 (inside, ap (is_running first current) number_is ∙ running_true first current n h.0 h.1)),
+      )
 
       -- the step has added the literal where its number is the step's
       pub Has-fresh : n ≡ current → Has f l
@@ -146,9 +155,9 @@ module _ (variables : ℕ) (ns : List ℕ) (first current count : ℕ) (kept : I
         counted = kept.counted ∙ ap length (sym (running_same low));
       }
         where
-        running_same : n < first → literals_where (is_running first current) 0 (set ns place current) ≡ literals_where (is_running first current) 0 ns
-        running_same low = literals_where-set_same (is_running first current) 0 ns place current
-            (ap (λ j. is_running first current (get_or ns j 0)) at ∙ ap (is_running first current) number_is ∙ running_below first current n low ∙ sym (running_above first current current (omega arith)))
+          running_same : n < first → literals_where (is_running first current) 0 (set ns place current) ≡ literals_where (is_running first current) 0 ns
+          running_same low = literals_where-set_same (is_running first current) 0 ns place current
+              (ap (λ j. is_running first current (get_or ns j 0)) at ∙ ap (is_running first current) number_is ∙ running_below first current n low ∙ sym (running_above first current current (omega arith)))
 
       pub running_added : n < first → literals_where (is_running first current) 0 (set ns place current) ≡ r
       running_added low = literals_where-set_same (is_running first current) 0 ns place current
@@ -162,39 +171,47 @@ module _ (variables : ℕ) (ns : List ℕ) (first current count : ℕ) (kept : I
       Has-added low x =
           let split = Has-set_passing (is_fresh current) ns l current inside (fresh_true current current refl) x in
           let same : literals_where (is_fresh current) 0 (set ns place current) ≡ literals_where (is_fresh current) 0 (set ns (code l) current) =
-            ap (λ j. literals_where (is_fresh current) 0 (set ns j current)) at in
-          (λ h. elim (split.0 (subst (λ c. Has c x) same h)) [
-            inl k ↦ inl (subst (λ c. Has c x) is_f k)
-          | inr e ↦ inr (e, λ k. not_running low (subst (Has r) e k)) ],
-          λ h. subst (λ c. Has c x) (sym same) (elim h [
-            inl k ↦ split.1 (inl (subst (λ c. Has c x) (sym is_f) k))
-          | inr k ↦ split.1 (inr k.0) ]))
+          ap (λ j. literals_where (is_fresh current) 0 (set ns j current)) at in (
+            λ h. elim (split.0 (subst (λ c. Has c x) same h)) [
+              | inl k ↦ inl (subst (λ c. Has c x) is_f k)
+              | inr e ↦ inr (e, λ k. not_running low (subst (Has r) e k))
+            ],
+            λ h. subst (λ c. Has c x) (sym same) (elim h [
+              | inl k ↦ split.1 (inl (subst (λ c. Has c x) (sym is_f) k))
+              | inr k ↦ split.1 (inr k.0)
+            ]),
+          )
 
       pub length-added : n < first → length (literals_where (is_fresh current) 0 (set ns place current)) ≡ length f + 1
       length-added low =
           let change = length-literals_set (is_fresh current) 0 ns (code l) current inside in
           let same : length (literals_where (is_fresh current) 0 (set ns place current)) ≡ length (literals_where (is_fresh current) 0 (set ns (code l) current)) =
-            ap (λ j. length (literals_where (is_fresh current) 0 (set ns j current))) at in
+          ap (λ j. length (literals_where (is_fresh current) 0 (set ns j current))) at in
           let old : one_if (is_fresh current (get_or ns (code l) 0)) ≡ 0 =
-            ap (λ m. one_if (is_fresh current m)) number_is ∙ ap one_if (fresh_false current n (λ e. let o : first ≤ current = kept.in_order in absurd (omega arith))) in
+          ap (λ m. one_if (is_fresh current m)) number_is ∙ ap one_if (fresh_false current n (λ e. let o : first ≤ current = kept.in_order in absurd (omega arith))) in
           let new : one_if (is_fresh current current) ≡ 1 = ap one_if (fresh_true current current refl) in
           let e : length (literals_where (is_fresh current) 0 ns) ≡ length f = ap length is_f in omega arith
 
       -- one that is there already is not
       pub Has-there : first ≤ n → (x : Literal) → Has f x ↔ (Has f x ⊎ ((x ≡ l) × (Has r x → ⊥)))
-      Has-there high x =
-          (λ h. inl h, λ h. elim h [
-            inl k ↦ k
+      Has-there high x = (
+        λ h. inl h,
+        λ h. elim h [
+          | inl k ↦ k
           | inr k ↦ elim (cases_eq n current) [
-              inl e ↦ subst (Has f) (sym k.0) (Has-fresh e)
-            | inr ne ↦ absurd (k.1 (subst (Has r) (sym k.0) (Has-running.1 (high, let small = number_small in omega arith)))) ] ])
+            | inl e ↦ subst (Has f) (sym k.0) (Has-fresh e)
+            | inr ne ↦ absurd (k.1 (subst (Has r) (sym k.0) (Has-running.1 (high, let small = number_small in omega arith))))
+          ]
+        ],
+      )
 
       -- between steps a literal is taken out by the number 0
       below_current : f ≡ [] → n < current
       below_current none =
           elim (cases_eq n current) [
-            inl e ↦ absurd (let h : Has [] l = subst (λ c. Has c l) none (Has-fresh e) in h)
-          | inr ne ↦ let small = number_small in omega arith ]
+            | inl e ↦ absurd (let h : Has [] l = subst (λ c. Has c l) none (Has-fresh e) in h)
+            | inr ne ↦ let small = number_small in omega arith
+          ]
 
       zero_fails : is_running first current 0 ≡ false
       zero_fails = running_below first current 0 (let s : 1 ≤ first = kept.started in omega arith)
@@ -206,9 +223,9 @@ module _ (variables : ℕ) (ns : List ℕ) (first current count : ℕ) (kept : I
       length_removed high none =
           let change = length-literals_set (is_running first current) 0 ns (code l) 0 inside in
           let same : length (literals_where (is_running first current) 0 (set ns place 0)) ≡ length (literals_where (is_running first current) 0 (set ns (code l) 0)) =
-            ap (λ j. length (literals_where (is_running first current) 0 (set ns j 0))) at in
+          ap (λ j. length (literals_where (is_running first current) 0 (set ns j 0))) at in
           let old : one_if (is_running first current (get_or ns (code l) 0)) ≡ 1 =
-            ap (λ m. one_if (is_running first current m)) number_is ∙ ap one_if (running_true first current n high (below_current none)) in
+          ap (λ m. one_if (is_running first current m)) number_is ∙ ap one_if (running_true first current n high (below_current none)) in
           let new : one_if (is_running first current 0) ≡ 0 = ap one_if zero_fails in
           let e : count ≡ length (literals_where (is_running first current) 0 ns) = kept.counted in omega arith
 
@@ -228,9 +245,10 @@ module _ (variables : ℕ) (ns : List ℕ) (first current count : ℕ) (kept : I
       Has-removed x =
           let split = Has-set_failing (is_running first current) ns l 0 inside zero_fails x in
           let same : literals_where (is_running first current) 0 (set ns place 0) ≡ literals_where (is_running first current) 0 (set ns (code l) 0) =
-            ap (λ j. literals_where (is_running first current) 0 (set ns j 0)) at in
-          (λ h. let k = split.0 (subst (λ c. Has c x) same h) in (subst (λ c. Has c x) is_r k.0, k.1),
-          λ h. subst (λ c. Has c x) (sym same) (split.1 (subst (λ c. Has c x) (sym is_r) h.0, h.1)))
+          ap (λ j. literals_where (is_running first current) 0 (set ns j 0)) at in (
+            λ h. let k = split.0 (subst (λ c. Has c x) same h) in (subst (λ c. Has c x) is_r k.0, k.1),
+            λ h. subst (λ c. Has c x) (sym same) (split.1 (subst (λ c. Has c x) (sym is_r) h.0, h.1)),
+          )
 
       pub fresh_removed : f ≡ [] → literals_where (is_fresh current) 0 (set ns place 0) ≡ []
       fresh_removed none =
@@ -250,8 +268,9 @@ zeros size = replicate size 0
 zero_at : (size k : ℕ) → ◌≡◌ {A = ℕ} (get_or (zeros size) k 0) 0
 zero_at size k =
     elim (cases_lt k size) [
-      inl lt ↦ get_or-replicate size k 0 0 lt
-    | inr past ↦ get_or_past (zeros size) k 0 (let len : length (zeros size) ≡ size = length-replicate {A = ℕ} size 0 in omega arith) ]
+      | inl lt ↦ get_or-replicate size k 0 0 lt
+      | inr past ↦ get_or_past (zeros size) k 0 (let len : length (zeros size) ≡ size = length-replicate {A = ℕ} size 0 in omega arith)
+    ]
 
 pub running_zeros : (ns : List ℕ) (size : ℕ) → ns ≡ zeros size → literals_where (is_running 1 1) 0 ns ≡ []
 running_zeros ns size e =

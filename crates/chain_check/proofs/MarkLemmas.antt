@@ -1,6 +1,6 @@
 -- The literals whose numbers pass a test.
-use Rattle.std.proofs.Common.{◌≡◌, ◌≢◌, ℕ, zero, suc, ◌+◌, ◌*◌, ◌<◌, ◌≤◌, ◌↔◌, ◌⊎◌, inl, inr, Bool, true, false, if◌then◌else◌, List, [], ◌∷◌, length, get_or, set, refl, sym, ◌∙◌, ap, subst, arith, length-set, get_or-set_same, get_or-set_other}
-use Rattle.std.proofs.lemmas.Bool.{cases_Bool, cases_eq, true≢false}
+use Rattle.std.proofs.Common.{◌≡◌, ◌≢◌, ℕ, zero, suc, ◌+◌, ◌<◌, ◌≤◌, ◌↔◌, ◌⊎◌, inl, inr, Bool, true, false, List, [], ◌∷◌, length, get_or, set, refl, sym, ◌∙◌, ap, subst, arith, length-set, get_or-set_same, get_or-set_other}
+use Rattle.std.proofs.lemmas.Bool.{cases_eq, true≢false}
 use Rattle.clause_defs.specs.Literals.{Literal, code}
 use Rattle.clause_defs.specs.Clauses.{Lits, Has}
 use Rattle.pch_base.specs.Lits.{literal_of}
@@ -54,45 +54,59 @@ place_of : (test : ℕ → Bool) (at : ℕ) (ns : List ℕ) (x : Literal) → Ha
 place_of test at [] x h = absurd h
 place_of test at (n ∷ ns) x h =
     elim (with_literal-cases (test n) (literal_of at) (literals_where test (at + 1) ns) x h) [
-      inl p ↦ (0, (let e : code x ≡ at = sym (ap code p.1) ∙ code-literal_of at in omega arith), omega arith, p.0)
-    | inr later ↦ place_later test at n ns x (place_of test (at + 1) ns x later) ]
+      | inl p ↦ (0, (let e : code x ≡ at = sym (ap code p.1) ∙ code-literal_of at in omega arith), omega arith, p.0)
+      | inr later ↦ place_later test at n ns x (place_of test (at + 1) ns x later)
+    ]
 
 -- the literals with a number that passes
 pub Has-literals_where : (test : ℕ → Bool) (ns : List ℕ) (x : Literal)
     → Has (literals_where test 0 ns) x ↔ ((code x < length ns) × (test (get_or ns (code x) 0) ≡ true))
-Has-literals_where test ns x =
-    (λ h. let p = place_of test 0 ns x h in
-    let e : code x ≡ p.0 = let f : code x ≡ 0 + p.0 = p.1 in omega arith in
-    let lt : p.0 < length ns = p.2 in
-    (omega arith, ap (λ i. test (get_or ns i 0)) e ∙ p.3),
-    λ h. has_at test 0 ns x (code x) (omega arith) h.0 h.1)
+Has-literals_where test ns x = (
+  λ h. let p = place_of test 0 ns x h in
+      let e : code x ≡ p.0 = let f : code x ≡ 0 + p.0 = p.1 in omega arith in
+      let lt : p.0 < length ns = p.2 in
+      (omega arith, ap (λ i. test (get_or ns i 0)) e ∙ p.3),
+  λ h. has_at test 0 ns x (code x) (omega arith) h.0 h.1,
+)
 
 -- a number that passes adds its literal
 pub Has-set_passing : (test : ℕ → Bool) (ns : List ℕ) (l : Literal) (n : ℕ) → code l < length ns → test n ≡ true
     → (x : Literal) → Has (literals_where test 0 (set ns (code l) n)) x ↔ (Has (literals_where test 0 ns) x ⊎ (x ≡ l))
 Has-set_passing test ns l n lt pass x =
     elim (cases_eq (code x) (code l)) [
-      inl e ↦ (λ h. inr (code_injective x l e), λ h. (Has-literals_where test (set ns (code l) n) x).1
-        (let len = length-set ns (code l) n in omega arith, ap (λ i. test (get_or (set ns (code l) n) i 0)) e ∙ ap test (get_or-set_same ns (code l) n 0 lt) ∙ pass))
-    | inr ne ↦ (λ h. let p = (Has-literals_where test (set ns (code l) n) x).0 h in
-        inl ((Has-literals_where test ns x).1 (let len = length-set ns (code l) n in let b = p.0 in omega arith, sym (ap test (get_or-set_other ns (code l) (code x) n 0 ne)) ∙ p.1)),
+      | inl e ↦ (
+        λ h. inr (code_injective x l e),
+        λ h. (Has-literals_where test (set ns (code l) n) x).1
+            (let len = length-set ns (code l) n in omega arith, ap (λ i. test (get_or (set ns (code l) n) i 0)) e ∙ ap test (get_or-set_same ns (code l) n 0 lt) ∙ pass),
+      )
+      | inr ne ↦ (
+        λ h. let p = (Has-literals_where test (set ns (code l) n) x).0 h in
+            inl ((Has-literals_where test ns x).1 (let len = length-set ns (code l) n in let b = p.0 in omega arith, sym (ap test (get_or-set_other ns (code l) (code x) n 0 ne)) ∙ p.1)),
         λ h. elim h [
-          inl k ↦ let p = (Has-literals_where test ns x).0 k in
-            (Has-literals_where test (set ns (code l) n) x).1 (let len = length-set ns (code l) n in let b = p.0 in omega arith, ap test (get_or-set_other ns (code l) (code x) n 0 ne) ∙ p.1)
-        | inr k ↦ absurd (ne (ap code k)) ]) ]
+          | inl k ↦ let p = (Has-literals_where test ns x).0 k in
+              (Has-literals_where test (set ns (code l) n) x).1 (let len = length-set ns (code l) n in let b = p.0 in omega arith, ap test (get_or-set_other ns (code l) (code x) n 0 ne) ∙ p.1)
+          | inr k ↦ absurd (ne (ap code k))
+        ],
+      )
+    ]
 
 -- a number that doesn't pass takes its literal out
 pub Has-set_failing : (test : ℕ → Bool) (ns : List ℕ) (l : Literal) (n : ℕ) → code l < length ns → test n ≡ false
     → (x : Literal) → Has (literals_where test 0 (set ns (code l) n)) x ↔ (Has (literals_where test 0 ns) x × (x ≢ l))
 Has-set_failing test ns l n lt fail x =
     elim (cases_eq (code x) (code l)) [
-      inl e ↦ (λ h. absurd (let p = (Has-literals_where test (set ns (code l) n) x).0 h in
-        true≢false (sym p.1 ∙ ap (λ i. test (get_or (set ns (code l) n) i 0)) e ∙ ap test (get_or-set_same ns (code l) n 0 lt) ∙ fail)),
-        λ h. absurd (h.1 (code_injective x l e)))
-    | inr ne ↦ (λ h. let p = (Has-literals_where test (set ns (code l) n) x).0 h in
-        ((Has-literals_where test ns x).1 (let len = length-set ns (code l) n in let b = p.0 in omega arith, sym (ap test (get_or-set_other ns (code l) (code x) n 0 ne)) ∙ p.1), λ k. ne (ap code k)),
+      | inl e ↦ (
+        λ h. absurd (let p = (Has-literals_where test (set ns (code l) n) x).0 h in
+            true≢false (sym p.1 ∙ ap (λ i. test (get_or (set ns (code l) n) i 0)) e ∙ ap test (get_or-set_same ns (code l) n 0 lt) ∙ fail)),
+        λ h. absurd (h.1 (code_injective x l e)),
+      )
+      | inr ne ↦ (
+        λ h. let p = (Has-literals_where test (set ns (code l) n) x).0 h in
+            ((Has-literals_where test ns x).1 (let len = length-set ns (code l) n in let b = p.0 in omega arith, sym (ap test (get_or-set_other ns (code l) (code x) n 0 ne)) ∙ p.1), λ k. ne (ap code k)),
         λ h. let p = (Has-literals_where test ns x).0 h.0 in
-            (Has-literals_where test (set ns (code l) n) x).1 (let len = length-set ns (code l) n in let b = p.0 in omega arith, ap test (get_or-set_other ns (code l) (code x) n 0 ne) ∙ p.1)) ]
+            (Has-literals_where test (set ns (code l) n) x).1 (let len = length-set ns (code l) n in let b = p.0 in omega arith, ap test (get_or-set_other ns (code l) (code x) n 0 ne) ∙ p.1),
+      )
+    ]
 
 -- a write changes their count by the two numbers
 pub length-literals_set : (test : ℕ → Bool) (at : ℕ) (ns : List ℕ) (i n : ℕ) → i < length ns
@@ -132,9 +146,9 @@ length-literals_le test at (n ∷ ns) =
     let b = length-literals_le test (at + 1) ns in
     let c = at_most_one (test n) in omega arith
   where
-  at_most_one : (b : Bool) → one_if b ≤ 1
-  at_most_one true = omega arith
-  at_most_one false = omega arith
+    at_most_one : (b : Bool) → one_if b ≤ 1
+    at_most_one true = omega arith
+    at_most_one false = omega arith
 
 -- of two tests of which one passes at most, the counts add up
 pub length-literals_add : (t u both : ℕ → Bool) → ((n : ℕ) → one_if (both n) ≡ one_if (t n) + one_if (u n)) → (at : ℕ) (ns : List ℕ)

@@ -20,9 +20,7 @@ pub fn check_chain(t: &Trace, k: u32, m: &mut Marks) -> Result<(), ChainError>
     requires within { k < length t.now }
     requires derived { antecedents_at t.now k ≢ [] }
     requires covered { (p : ℕ) → WithinVariables m.old.variables (lits_at t.now p) }
-    ensures end {
-        ChainFault (index_at t.now k) (lits_at t.now k) (map (lits_at t.now) (antecedents_at t.now k)) result
-    }
+    ensures end { ChainFault (index_at t.now k) (lits_at t.now k) (map (lits_at t.now) (antecedents_at t.now k)) result }
     ensures variables { m.new.variables ≡ m.old.variables }
 {
     let clause = t.index(k);

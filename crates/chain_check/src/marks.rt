@@ -29,14 +29,12 @@ impl Model for Marks {
 
     ghost Value = { Marked };
 
-    ghost view = {
-        λ m. record {
-            variables = m.variables;
-            running = literals_where (is_running m.first m.current) 0 m.numbers.items;
-            fresh = literals_where (is_fresh m.current) 0 m.numbers.items;
-            left = 2 ^ 32 - m.current;
-        }
-    };
+    ghost view = { λ m. record {
+      variables = m.variables;
+      running = literals_where (is_running m.first m.current) 0 m.numbers.items;
+      fresh = literals_where (is_fresh m.current) 0 m.numbers.items;
+      left = 2 ^ 32 - m.current;
+    } };
 
     ghost invariant = { λ m. IsKept m.variables m.numbers.items m.first m.current m.count };
 }
@@ -114,10 +112,8 @@ impl Marks {
         ensures variables { self.new.variables ≡ self.old.variables }
         ensures running { self.new.running ≡ self.old.running }
         ensures left { self.new.left ≡ self.old.left }
-        ensures fresh {
-            (x : Literal)
-            → Has self.new.fresh x ↔ (Has self.old.fresh x ⊎ ((x ≡ l) × (Has self.old.running x → ⊥)))
-        }
+        ensures fresh { (x : Literal)
+            → Has self.new.fresh x ↔ (Has self.old.fresh x ⊎ ((x ≡ l) × (Has self.old.running x → ⊥))) }
         ensures new { OnTrue result (length self.new.fresh ≡ length self.old.fresh + 1) }
         ensures new_to_running { OnTrue result (Has self.old.running l → ⊥) }
         ensures there { OnFalse result (length self.new.fresh ≡ length self.old.fresh) }
@@ -136,9 +132,7 @@ impl Marks {
         requires counted { added ≡ length self.old.fresh }
         requires room { 0 < self.old.left }
         ensures variables { self.new.variables ≡ self.old.variables }
-        ensures running {
-            (x : Literal) → Has self.new.running x ↔ (Has self.old.running x ⊎ Has self.old.fresh x)
-        }
+        ensures running { (x : Literal) → Has self.new.running x ↔ (Has self.old.running x ⊎ Has self.old.fresh x) }
         ensures fresh { self.new.fresh ≡ [] }
         ensures left { self.new.left + 1 ≡ self.old.left }
     {
@@ -151,9 +145,7 @@ impl Marks {
         requires within { l.variable ≤ self.old.variables }
         requires between_steps { self.old.fresh ≡ [] }
         ensures variables { self.new.variables ≡ self.old.variables }
-        ensures running {
-            (x : Literal) → Has self.new.running x ↔ (Has self.old.running x × (x ≢ l))
-        }
+        ensures running { (x : Literal) → Has self.new.running x ↔ (Has self.old.running x × (x ≢ l)) }
         ensures fresh { self.new.fresh ≡ [] }
         ensures left { self.new.left ≡ self.old.left }
         ensures found { IsTrue result ↔ Has self.old.running l }

@@ -1,5 +1,5 @@
-use Rattle.std.proofs.Common.{◌≡◌, ◌<◌, ◌≤◌, ℕ, List, length, get_or, map, Err, sym, ap, ◌∙◌, subst, arith, inl, inr}
-use Rattle.clause_defs.specs.Clauses.{Lits, SameSet}
+use Rattle.std.proofs.Common.{ℕ, List, get_or, map, Err, sym, ◌∙◌, subst, arith}
+use Rattle.clause_defs.specs.Clauses.{SameSet}
 use Rattle.clause_defs.specs.Resolution.{SeveralClash}
 use Rattle.clause_defs.specs.Traces.{lits_at, index_at, antecedents_at}
 use Rattle.clause_defs.specs.Verdicts.{ChainFault}
@@ -23,7 +23,7 @@ loop-step-init c =
       between_steps = c.load.ensures.fresh;
       room = let cleared = c.clear.ensures.left in let loaded = c.load.ensures.left in omega arith;
       rest = chain_begins (index_at c.args.t.now c.args.k) (lits_at c.args.t.now c.args.k) c.args.t.now ps c.load.new.self.running some
-        (subst (SameSet c.load.new.self.running) c.lits.ensures.lits c.load.ensures.running);
+          (subst (SameSet c.load.new.self.running) c.lits.ensures.lits c.load.ensures.running);
     }
 
 pub lits-requires-in-loop-step : goal.lits-requires-in-loop-step

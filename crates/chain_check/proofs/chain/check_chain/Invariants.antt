@@ -1,5 +1,5 @@
-use Rattle.std.proofs.Common.{◌≡◌, ◌+◌, ◌≤◌, List, [], length, map, drop, Result}
-use Rattle.clause_defs.specs.Traces.{lits_at, index_at, antecedents_at}
+use Rattle.std.proofs.Common.{◌≡◌, ◌+◌, ◌≤◌, [], length, map, drop, Result}
+use Rattle.clause_defs.specs.Traces.{lits_at, index_at}
 use Rattle.clause_defs.specs.Verdicts.{ChainEnds, ChainFault}
 use Rattle.clause_defs.specs.declared.verdict.ChainError.{ChainError}
 use Rattle.chain_check.proofs.chain.check_chain.Given as goal

@@ -16,5 +16,6 @@ pub loop-m-preserved : goal.loop-m-preserved
 loop-m-preserved c h =
     let m = c.m-item.result in
     elim ((Has-take_more c.args.c.now c.loop-m.m-index m c.args.l c.loop-m-test.true c.m-item.is).0 h) [
-      inl k ↦ c.loop-m.invariant k
-    | inr e ↦ eqb-false (code m) (code c.args.l) (sym (c.if-eq.ensures {u = tt})) (ap code e) ]
+      | inl k ↦ c.loop-m.invariant k
+      | inr e ↦ eqb-false (code m) (code c.args.l) (sym (c.if-eq.ensures {u = tt})) (ap code e)
+    ]

@@ -1,4 +1,4 @@
-use Rattle.std.proofs.Common.{◌≤◌, arith}
+use Rattle.std.proofs.Common.{arith}
 use Rattle.chain_check.proofs.trace.check_trace.Goals as goal
 
 pub returns-then-ends_empty-clause-sound : goal.returns-then-ends_empty-clause-sound

@@ -1,4 +1,4 @@
-use Rattle.std.proofs.Common.{◌≤◌, ap, arith}
+use Rattle.std.proofs.Common.{ap, arith}
 use Rattle.chain_check.specs.Marks.{Marked}
 use Rattle.chain_check.proofs.KeptLemmas.{kept_added, running_added, not_running, Has-added, length-added, Has-there}
 use Rattle.chain_check.proofs.marks.Marks.add.Goals as goal

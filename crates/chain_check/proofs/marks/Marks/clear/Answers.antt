@@ -4,14 +4,14 @@ use Rattle.chain_check.proofs.marks.Marks.clear.Goals as goal
 pub invariant_of-self : goal.invariant_of-self
 invariant_of-self c =
     let m = c.self.inside in
-    kept_cleared m.variables m.numbers.items m.first m.current m.count c.self.invariant 
+    kept_cleared m.variables m.numbers.items m.first m.current m.count c.self.invariant
 
 pub returns-clause-running : goal.returns-clause-running
 returns-clause-running c =
     let m = c.self.inside in
-    running_none m.variables m.numbers.items m.first m.current m.count c.self.invariant 
+    running_none m.variables m.numbers.items m.first m.current m.count c.self.invariant
 
 pub returns-clause-fresh : goal.returns-clause-fresh
 returns-clause-fresh c =
     let m = c.self.inside in
-    fresh_next m.variables m.numbers.items m.first m.current m.count c.self.invariant 
+    fresh_next m.variables m.numbers.items m.first m.current m.count c.self.invariant

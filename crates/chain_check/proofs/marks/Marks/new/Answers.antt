@@ -1,4 +1,4 @@
-use Rattle.std.proofs.Common.{ℕ, ◌+◌, ◌*◌, arith}
+use Rattle.std.proofs.Common.{◌+◌, ◌*◌, arith}
 use Rattle.chain_check.proofs.KeptLemmas.{kept_zeros}
 use Rattle.chain_check.proofs.marks.Marks.new.Goals as goal
 

@@ -1,4 +1,4 @@
-use Rattle.std.proofs.Common.{◌≤◌, refl, ap, arith}
+use Rattle.std.proofs.Common.{refl, ap, arith}
 use Rattle.chain_check.specs.Marks.{Marked}
 use Rattle.chain_check.proofs.KeptLemmas.{some_counted, kept_removed, Has-removed, fresh_removed, found, not_running, Has-absent}
 use Rattle.chain_check.proofs.marks.Marks.remove.Goals as goal
@@ -15,11 +15,13 @@ returns-then-number-self-clause-running c =
 pub returns-then-number-self-clause-found : goal.returns-then-number-self-clause-found
 returns-then-number-self-clause-found c =
     let m = c.self.inside in
-    let size = ap (λ (v : Marked). v.variables) c.self.view_is in
-    (λ e. absurd cc, λ h. absurd (not_running m.variables m.numbers.items m.first m.current m.count c.self.invariant
-    c.args.self.now.running c.args.self.now.fresh
-    (ap (λ (v : Marked). v.running) c.self.view_is) (ap (λ (v : Marked). v.fresh) c.self.view_is)
-    c.args.l (omega arith) c.code-place.result c.index.result.now c.code-place.ensures.code c.index.ensures (let e = c.from-number.ensures in omega arith) h))
+    let size = ap (λ (v : Marked). v.variables) c.self.view_is in (
+      λ e. absurd cc,
+      λ h. absurd (not_running m.variables m.numbers.items m.first m.current m.count c.self.invariant
+          c.args.self.now.running c.args.self.now.fresh
+          (ap (λ (v : Marked). v.running) c.self.view_is) (ap (λ (v : Marked). v.fresh) c.self.view_is)
+          c.args.l (omega arith) c.code-place.result c.index.result.now c.code-place.ensures.code c.index.ensures (let e = c.from-number.ensures in omega arith) h),
+    )
 
 pub overflow_sub-self : goal.overflow_sub-self
 overflow_sub-self c =
@@ -46,7 +48,7 @@ returns-clause-running c =
     Has-removed m.variables m.numbers.items m.first m.current m.count c.self.invariant
     c.args.self.now.running c.args.self.now.fresh
     (ap (λ (v : Marked). v.running) c.self.view_is) (ap (λ (v : Marked). v.fresh) c.self.view_is)
-    c.args.l (omega arith) c.code-place.result c.index.result.now c.code-place.ensures.code c.index.ensures 
+    c.args.l (omega arith) c.code-place.result c.index.result.now c.code-place.ensures.code c.index.ensures
 
 pub returns-clause-fresh : goal.returns-clause-fresh
 returns-clause-fresh c =
@@ -60,8 +62,10 @@ returns-clause-fresh c =
 pub returns-clause-found : goal.returns-clause-found
 returns-clause-found c =
     let m = c.self.inside in
-    let size = ap (λ (v : Marked). v.variables) c.self.view_is in
-    (λ e. found m.variables m.numbers.items m.first m.current m.count c.self.invariant
-    c.args.self.now.running c.args.self.now.fresh
-    (ap (λ (v : Marked). v.running) c.self.view_is) (ap (λ (v : Marked). v.fresh) c.self.view_is)
-    c.args.l (omega arith) c.code-place.result c.index.result.now c.code-place.ensures.code c.index.ensures (let e = c.from-number.ensures in omega arith) c.requires.between_steps, λ h. refl)
+    let size = ap (λ (v : Marked). v.variables) c.self.view_is in (
+      λ e. found m.variables m.numbers.items m.first m.current m.count c.self.invariant
+          c.args.self.now.running c.args.self.now.fresh
+          (ap (λ (v : Marked). v.running) c.self.view_is) (ap (λ (v : Marked). v.fresh) c.self.view_is)
+          c.args.l (omega arith) c.code-place.result c.index.result.now c.code-place.ensures.code c.index.ensures (let e = c.from-number.ensures in omega arith) c.requires.between_steps,
+      λ h. refl,
+    )

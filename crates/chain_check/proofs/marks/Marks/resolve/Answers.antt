@@ -1,9 +1,8 @@
-use Rattle.std.proofs.Common.{◌≡◌, ◌+◌, ◌≤◌, ◌↔◌, ◌⊎◌, Some, take, refl, sym, subst, ◌∙◌, ap, true, false, not, arith}
+use Rattle.std.proofs.Common.{◌≡◌, ◌+◌, ◌↔◌, ◌⊎◌, Some, take, sym, subst, ◌∙◌, ap, arith}
 use Rattle.std.proofs.lemmas.Bool.{eqb-true, eqb-false, not-true, not-false, true≢false}
 use Rattle.std.proofs.lemmas.List.{take_all}
 use Rattle.clause_defs.specs.Literals.{Literal, negation, code}
 use Rattle.clause_defs.specs.Clauses.{Lits, Has}
-use Rattle.clause_defs.specs.Resolution.{Step}
 use Rattle.pch_base.specs.LitCodes.{code_injective}
 use Rattle.chain_check.specs.Steps.{IsPivot, AddsToStep}
 use Rattle.chain_check.proofs.ClauseLists.{Has-get}
@@ -35,14 +34,16 @@ loop-l-preserved-then-not-holds c =
       running = c.add.ensures.running ∙ c.loop-l.invariant.running;
       left = c.add.ensures.left ∙ c.loop-l.invariant.left;
       fresh = adds_more r c.args.c.now c.loop-l.l-index l lt c.l-item.is c.loop-l.self.fresh c.add.new.self.fresh calm
-        (subst (λ (q : Lits). (x : Literal) → Has c.add.new.self.fresh x ↔ (Has c.loop-l.self.fresh x ⊎ ((x ≡ l) × (Has q x → ⊥)))) c.loop-l.invariant.running c.add.ensures.fresh)
-        c.loop-l.invariant.fresh;
+          (subst (λ (q : Lits). (x : Literal) → Has c.add.new.self.fresh x ↔ (Has c.loop-l.self.fresh x ⊎ ((x ≡ l) × (Has q x → ⊥)))) c.loop-l.invariant.running c.add.ensures.fresh)
+          c.loop-l.invariant.fresh;
       counted = let before = c.loop-l.invariant.counted in elim c.if-add.branch [
-          then-add w ↦ let new = (w.if-add.ensures {u = tt}).new in let is = w.added-is in omega arith
-        | else-add w ↦ let there = (w.if-add.ensures {u = tt}).there in let is = w.added-is in omega arith ];
+        | then-add w ↦ let new = (w.if-add.ensures {u = tt}).new in let is = w.added-is in omega arith
+        | else-add w ↦ let there = (w.if-add.ensures {u = tt}).there in let is = w.added-is in omega arith
+      ];
       small = let before = c.loop-l.invariant.small in elim c.if-add.branch [
-          then-add w ↦ let is = w.added-is in omega arith
-        | else-add w ↦ let is = w.added-is in omega arith ];
+        | then-add w ↦ let is = w.added-is in omega arith
+        | else-add w ↦ let is = w.added-is in omega arith
+      ];
       pivot = pivot_same r c.args.c.now c.loop-l.l-index l lt c.l-item.is c.loop-l.pivot calm c.loop-l.invariant.pivot;
     }
 
@@ -70,7 +71,7 @@ loop-l-preserved c =
       counted = c.loop-l.invariant.counted;
       small = let before = c.loop-l.invariant.small in omega arith;
       pivot = elim c.match-pivot.branch [
-          in-None w ↦ subst (IsPivot r (take (c.loop-l.l-index + 1) c.args.c.now)) (ap Some (sym c.negated-opposite.ensures) ∙ sym w.pivot-is)
+        | in-None w ↦ subst (IsPivot r (take (c.loop-l.l-index + 1) c.args.c.now)) (ap Some (sym c.negated-opposite.ensures) ∙ sym w.pivot-is)
             (pivot_first r c.args.c.now c.loop-l.l-index l c.loop-l-test.true c.l-item.is clash
             (subst (IsPivot r (take c.loop-l.l-index c.args.c.now)) w.in-None.is c.loop-l.invariant.pivot))
         | in-Some+else-ne w ↦
@@ -78,7 +79,8 @@ loop-l-preserved c =
             let same = code_injective p c.negated-opposite.result (eqb-true (code p) (code c.negated-opposite.result) (not-false _ (sym (w.if-ne.ensures {u = tt})))) in
             subst (IsPivot r (take (c.loop-l.l-index + 1) c.args.c.now)) (sym w.pivot-is)
             (pivot_again r c.args.c.now c.loop-l.l-index l c.loop-l-test.true c.l-item.is p clash (same ∙ c.negated-opposite.ensures)
-            (subst (IsPivot r (take c.loop-l.l-index c.args.c.now)) w.in-Some.is c.loop-l.invariant.pivot)) ];
+            (subst (IsPivot r (take c.loop-l.l-index c.args.c.now)) w.in-Some.is c.loop-l.invariant.pivot))
+      ];
     }
 
 pub returns-then-not-has-clause-step : goal.returns-then-not-has-clause-step

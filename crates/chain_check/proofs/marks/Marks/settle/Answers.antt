@@ -1,4 +1,4 @@
-use Rattle.std.proofs.Common.{◌≤◌, ap, arith}
+use Rattle.std.proofs.Common.{ap, arith}
 use Rattle.chain_check.specs.Marks.{Marked}
 use Rattle.chain_check.proofs.KeptLemmas.{fresh_next, kept_settled, settled_bound, Has-settled}
 use Rattle.chain_check.proofs.marks.Marks.settle.Goals as goal
@@ -24,4 +24,4 @@ returns-clause-running c =
 pub returns-clause-fresh : goal.returns-clause-fresh
 returns-clause-fresh c =
     let m = c.self.inside in
-    fresh_next m.variables m.numbers.items m.first m.current m.count c.self.invariant 
+    fresh_next m.variables m.numbers.items m.first m.current m.count c.self.invariant

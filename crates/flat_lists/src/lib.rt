@@ -6,5 +6,7 @@
 #![tactic(auto)]
 
 mod lists;
+#[cfg(test)]
+mod tests;
 
 pub use lists::FlatLists;

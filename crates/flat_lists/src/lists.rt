@@ -123,7 +123,7 @@ impl<T: Copy> FlatLists<T> {
         let last = self.ends.len() - 1;
         let end = begin(&self.ends, last);
         self.ends.truncate(last);
-        self.items.truncate(end as usize);
+        self.items.truncate(end);
     }
 }
 

@@ -8,6 +8,8 @@ mod lit;
 mod memory;
 mod name;
 mod numbers;
+#[cfg(test)]
+mod tests;
 
 pub use bits::Bits;
 pub use clause::{Clause, literals_are_within_limits, order_literals};

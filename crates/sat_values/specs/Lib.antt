@@ -1,2 +1,4 @@
+pub mod ClauseIndex
 pub mod ClauseLists
+pub mod ClauseSets
 pub mod TraceArrays

@@ -2,6 +2,7 @@ ghost use Rattle.std.specs.Prelude.{◌≡◌, ◌↔◌, ◌-◌, ◌≤◌, le
 ghost use Rattle.clause_defs.specs.Clauses.{Lits, Has, HasClause, IsOrdered, IsClause, WithinVariables};
 ghost use Rattle.sat_values.specs.ClauseLists.{AreClausesOver};
 
+use crate::clause_index::{ClauseIndex, stands_before};
 use crate::clauses::Clauses;
 use clause_defs::MAX_VARIABLE;
 use pch_base::{Lit, NoMemory};
@@ -13,34 +14,33 @@ use std::marker::Model;
 pub struct ClauseSet {
     variables: u32,
     clauses: Clauses,
+    index: ClauseIndex,
 }
 
 impl Model for ClauseSet {
     ghost use Rattle.sat_text_defs.specs.CnfText.{Formula};
-    ghost use Rattle.sat_values.specs.ClauseLists.{AreClausesOver};
+    ghost use Rattle.sat_values.specs.ClauseSets.{IsClauseSet};
 
     ghost Value = { Formula };
 
     ghost view = { λ s. record { variables = s.variables; clauses = s.clauses } };
 
-    ghost invariant = { λ s. AreClausesOver s.variables s.clauses };
+    ghost invariant = { λ s. IsClauseSet s.variables s.clauses s.index.latest.items s.index.earlier.items };
 }
 
 impl ClauseSet {
     /// The clauses of a list, over the variables 1 to `variables`.
-    pub fn from_clauses(
-        _alloc: Global,
-        variables: u32,
-        list: Clauses,
-    ) -> Result<ClauseSet, NoMemory>
+    pub fn from_clauses(alloc: Global, variables: u32, list: Clauses) -> Result<ClauseSet, NoMemory>
         requires few_variables { variables ≤ MAX_VARIABLE }
         requires within { (c : Lits) → Has list c → WithinVariables variables c }
         ensures { IfOk result (λ s. s ≡ record { variables = variables; clauses = list }) }
     {
+        let index = ClauseIndex::of(alloc, &list)?;
         let _len = list.len();
         Ok(ClauseSet {
             variables,
             clauses: list,
+            index,
         })
     }
 
@@ -76,17 +76,6 @@ impl ClauseSet {
         requires { IsOrdered lits.now }
         ensures { IsTrue result ↔ HasClause self.now.clauses lits.now }
     {
-        for k in 0..self.clauses.len() {
-            if same_literals(self.clauses.clause(k), lits) {
-                return true;
-            }
-        }
-        false
+        stands_before(&self.clauses, &self.index.latest, &self.index.earlier, lits)
     }
-}
-
-fn same_literals(a: &[Lit], b: &[Lit]) -> bool
-    ensures { IsTrue result ↔ (a.now ≡ b.now) }
-{
-    a == b
 }

@@ -6,5 +6,5 @@ use Rattle.sat_values.proofs.clause_set.ClauseSet.clause.Goals as goal
 pub returns-clause-within : goal.returns-clause-within
 returns-clause-within c l h =
     subst (λ (f : Formula). l.variable ≤ f.variables) c.self.view_is
-    (c.self.invariant.within c.clause.result.now
+    (c.self.invariant.clauses.within c.clause.result.now
     (Has-slice_get c.self.inside.clauses (c.args.number - 1) c.clause.result.now c.clause.ensures.lits) l h)

@@ -2,7 +2,7 @@ use Rattle.std.proofs.Common.{ap, eqb-true, eq-eqb}
 use Rattle.std.proofs.lemmas.Slice.Eq.{slice_eq-Decides}
 use Rattle.clause_defs.specs.Literals.{code}
 use Rattle.pch_base.specs.LitCodes.{code_injective}
-use Rattle.sat_values.proofs.clause_set.same_literals.Goals as goal
+use Rattle.sat_values.proofs.clause_index.same_literals.Goals as goal
 
 pub returns : goal.returns
 returns c =

@@ -1,1 +1,3 @@
-mod PlaceLemmas
+mod Judging
+mod FirstWord
+mod ClauseByClause

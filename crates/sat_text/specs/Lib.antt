@@ -1,3 +1,4 @@
 pub mod Answers
 pub mod Raw
 pub mod Header
+pub mod Values

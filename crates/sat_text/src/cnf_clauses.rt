@@ -1,13 +1,13 @@
 ghost use Rattle.std.specs.Prelude.{◌≡◌, ◌<◌, ◌≤◌, [], length, IfOk};
 ghost use Rattle.sat_text_defs.specs.CnfReading.{literal_within, clauses_from};
-ghost use Rattle.sat_text_defs.specs.Spellings.{clause_of};
 ghost use Rattle.sat_scan.specs.Scan.{token_at, behind_word_at, cnf_tokens_from};
 ghost use Rattle.sat_text.specs.Answers.{GivesCnf};
 
+use crate::close::close_clause;
 use crate::errors::CnfError;
-use pch_base::{Clause, Lit, NoMemory};
 use sat_scan::{LitWord, is_zero_at, literal_at, next_cnf_word};
 use sat_text_defs::MAX_CNF_BYTES;
+use sat_values::Clauses;
 use std::alloc::Global;
 
 /// The literal that the word at `at` spells, over this many variables.
@@ -28,31 +28,24 @@ fn read_literal(text: &[u8], at: usize, variables: u32) -> Result<LitWord, CnfEr
     Ok(word)
 }
 
-/// The clause with these literals.
-fn clause_with(alloc: Global, lits: &[Lit]) -> Result<Clause, NoMemory>
-    ensures { IfOk result (λ c. c ≡ clause_of lits.now) }
-{
-    Clause::from_lits(alloc, lits)
-}
-
 /// Appends the clauses from `from` on to the end of the text, over this many variables.
 pub fn read_clauses(
     alloc: Global,
     text: &[u8],
     from: usize,
     variables: u32,
-    clauses: &mut Vec<Clause>,
+    clauses: &mut Clauses,
 ) -> Result<(), CnfError>
     requires within { from ≤ length text.now }
     requires short { length text.now ≤ MAX_CNF_BYTES }
-    ensures exact { GivesCnf (λ _. clauses.new.items) result (clauses_from variables (length text.now) (cnf_tokens_from from text.now) clauses.old.items []) }
+    ensures exact { GivesCnf (λ _. clauses.new) result (clauses_from variables (length text.now) (cnf_tokens_from from text.now) clauses.old []) }
 {
     let mut lits = Vec::new(alloc);
     let mut at = next_cnf_word(text, from);
     while at < text.len() {
         if is_zero_at(text, at) {
-            let clause = clause_with(alloc, &lits)?;
-            clauses.push(clause)?;
+            close_clause(&mut lits);
+            clauses.push_lits(&lits)?;
             lits.clear();
             at = next_cnf_word(text, at + 1);
         } else {

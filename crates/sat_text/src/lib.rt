@@ -1,12 +1,20 @@
 //! The values of a CNF and of a trace, and their texts: readers that answer the value or the first
 //! fault, and printers.
+//!
+//! `sat_text_defs` says which bytes are the text of which value, and which one fault any other text
+//! has. The readers go over the bytes once, from word to word (`sat_scan`); the trace's reader looks
+//! antecedents up in `trace_places`.
 #![tactic(auto)]
 
+mod close;
 mod cnf_clauses;
 mod cnf_header;
+mod cnf_reader;
 mod errors;
-mod places;
 mod trace_clause;
+mod trace_reader;
 
+pub use cnf_reader::read_cnf;
 pub use errors::{CnfError, TraceError};
 pub use sat_values::{ClauseSet, Clauses, Cnf, Trace};
+pub use trace_reader::read_trace;

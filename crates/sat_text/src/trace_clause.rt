@@ -1,4 +1,4 @@
-ghost use Rattle.std.specs.Prelude.{◌≡◌, ◌<◌, ◌≤◌, length, IfOk};
+ghost use Rattle.std.specs.Prelude.{◌≡◌, ◌+◌, ◌<◌, ◌≤◌, length, IfOk};
 ghost use Rattle.sat_text_defs.specs.TraceReading.{literals_from, indices_from, clause_from};
 ghost use Rattle.sat_scan.specs.Scan.{tokens_from, IsAtWord};
 ghost use Rattle.sat_text.specs.Answers.{GivesTrace};
@@ -34,6 +34,7 @@ pub fn read_indices(text: &[u8], from: usize, indices: &mut Vec<u32>) -> Result<
     requires within { from ≤ length text.now }
     requires short { length text.now ≤ MAX_TRACE_BYTES }
     ensures exact { GivesTrace (λ next. (indices.new.items, tokens_from next text.now)) result (indices_from (length text.now) indices.old.items (tokens_from from text.now)) }
+    ensures few { IfOk result (λ next. length indices.new.items + from ≤ length indices.old.items + next) }
     ensures later { IfOk result (λ next. from < next) }
     ensures inside { IfOk result (λ next. next ≤ length text.now) }
 {
@@ -63,6 +64,8 @@ pub fn read_clause(text: &[u8], at: usize, clause: &mut RawClause) -> Result<usi
     requires stands { IsAtWord at text.now }
     requires short { length text.now ≤ MAX_TRACE_BYTES }
     ensures exact { GivesTrace (λ next. (spelled_of clause.new, tokens_from next text.now)) result (clause_from (length text.now) (tokens_from at text.now)) }
+    ensures few { IfOk result (λ _. length clause.new.antecedents.items ≤ length text.now) }
+    ensures index { IfOk result (λ _. (1 ≤ clause.new.index) × (clause.new.index ≤ MAX_INDEX)) }
     ensures later { IfOk result (λ next. at < next) }
     ensures inside { IfOk result (λ next. next ≤ length text.now) }
 {

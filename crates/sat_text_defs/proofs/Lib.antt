@@ -1,1 +1,2 @@
 pub mod ClauseOf
+pub mod NextClause

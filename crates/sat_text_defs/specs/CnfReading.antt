@@ -78,10 +78,19 @@ abbrev pub counted : ℕ → ℕ → List Lits → Result Formula CnfFault
 counted variables said fs =
     if length fs == said then Ok (record { variables = variables; clauses = fs }) else Err (Count said (length fs))
 
+-- the CNF of the tokens of a text that ends at `end`, where the first line with tokens ends at `line`
+abbrev pub cnf_from : ℕ → ℕ → List Token → Result Formula CnfFault
+cnf_from end line ts =
+    header_in end line ts >>= λ h.
+    (clauses_from h.variables end h.rest [] [] >>= λ fs. counted h.variables h.clauses fs)
+
+-- the end of the line on which the first token stands
+abbrev pub header_line : List ℕ → List Token → ℕ
+header_line text ts = line_end (start_of (length text) ts) (drop (start_of (length text) ts) text)
+
 -- the CNF of a text, or its fault
 abbrev pub cnf_in : List ℕ → Result Formula CnfFault
 cnf_in text =
     if nat_lt MAX_CNF_BYTES (length text)
     then Err TooLong
-    else (header_in (length text) (line_end (start_of (length text) (tokens_of text)) (drop (start_of (length text) (tokens_of text)) text)) (tokens_of text) >>= λ h.
-    (clauses_from h.variables (length text) h.rest [] [] >>= λ fs. counted h.variables h.clauses fs))
+    else cnf_from (length text) (header_line text (tokens_of text)) (tokens_of text)

@@ -73,6 +73,10 @@ judged t s =
     then Err (Repeated s.index)
     else with_places t s (places_from (indices_of t) [] s.antecedents)
 
+-- the trace with the clause that the tokens begin with, and the tokens behind it
+abbrev pub next_from : ℕ → List Token → List Entry → Result (List Entry × List Token) TraceFault
+next_from end ts t = clause_from end ts >>= λ r. (judged t r.0 >>= λ u. Ok (u, r.1))
+
 -- ---- the whole text
 
 -- where a token stands: at the begin of a clause, among its literals, or among its antecedents

@@ -6,7 +6,7 @@ use Rattle.sat_text.proofs.cnf_clauses.read_clauses.Given as goal
 abbrev pub invariant-loop-at : goal.invariant-loop-at
 invariant-loop-at l = record {
   stands : IsAtCnfWord l.at l.text;
-  exact : clauses_from l.variables (length l.text) (cnf_tokens_from l.at l.text) l.clauses.items l.lits.items ≡ clauses_from l.variables (length l.text) (cnf_tokens_from l.from l.text) l.fn.clauses.items [];
+  exact : clauses_from l.variables (length l.text) (cnf_tokens_from l.at l.text) l.clauses l.lits.items ≡ clauses_from l.variables (length l.text) (cnf_tokens_from l.from l.text) l.fn.clauses [];
 }
 
 abbrev pub decreases-loop-at : goal.decreases-loop-at

@@ -1,6 +1,6 @@
 use Rattle.std.proofs.Common.{◌∙◌, sym}
-use Rattle.sat_text.proofs.PlaceLemmas.{places_from-next}
-use Rattle.sat_text.proofs.places.Places.find_all.Goals as goal
+use Rattle.trace_places.proofs.PlaceLemmas.{places_from-next}
+use Rattle.trace_places.proofs.places.Places.find_all.Goals as goal
 
 pub loop-index-preserved : goal.loop-index-preserved
 loop-index-preserved c =

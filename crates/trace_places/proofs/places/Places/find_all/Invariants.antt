@@ -1,6 +1,6 @@
 use Rattle.std.proofs.Common.{◌≡◌, drop}
 use Rattle.sat_text_defs.specs.TraceReading.{places_from}
-use Rattle.sat_text.proofs.places.Places.find_all.Given as goal
+use Rattle.trace_places.proofs.places.Places.find_all.Given as goal
 
 abbrev pub invariant-loop-index : goal.invariant-loop-index
 invariant-loop-index l =

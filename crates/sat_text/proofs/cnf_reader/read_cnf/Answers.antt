@@ -1,0 +1,16 @@
+use Rattle.std.proofs.Common.{◌≡◌, ◌≤◌, length, Result, sym, subst, arith}
+use Rattle.sat_text_defs.specs.declared.fault.CnfFault.{CnfFault}
+use Rattle.sat_text_defs.specs.declared.fault.TheConstants.{MAX_CNF_BYTES}
+use Rattle.sat_text_defs.specs.CnfText.{Formula}
+use Rattle.sat_text.specs.Answers.{GivesCnf}
+use Rattle.sat_text.specs.Values.{formula_of}
+use Rattle.sat_text.proofs.FirstWord.{cnf_in-from}
+use Rattle.sat_text.proofs.cnf_reader.read_cnf.Goals as goal
+
+pub returns : goal.returns
+returns c =
+    let short : length c.args.b.now ≤ MAX_CNF_BYTES = omega arith in
+    record {
+      exact = subst (λ (text : Result Formula CnfFault). GivesCnf formula_of c.read_from.result text)
+          (sym (cnf_in-from c.first_word.result c.args.b.now short c.first_word.ensures.stands c.first_word.ensures.tokens)) c.read_from.ensures.exact;
+    }

@@ -1,0 +1,117 @@
+ghost use Rattle.std.specs.Prelude.{◌≡◌, ◌==◌, ℕ, vec_len, slice_index, if◌then◌else◌, ◌+◌, ◌<◌, ◌^◌, ◌∷◌, ◌++◌, [], length, IfOk, OnOk, OnErr, Ok, Err, None, MatchOption};
+ghost use Rattle.sat_text_defs.specs.TraceReading.{place_of, places_from};
+
+use pch_base::NoMemory;
+use std::alloc::Global;
+use std::collections::BTreeMap;
+use std::marker::Model;
+
+/// The indices of a trace's clauses by place, all distinct. Contracts see the list.
+///
+/// The table has one more than the place of an index, and 0 where it has none.
+#[derive(Drop)]
+pub struct Places {
+    indices: Vec<u32>,
+    table: Vec<u32>,
+    table_limit: usize,
+    others: BTreeMap<u32, u32>,
+}
+
+impl Model for Places {
+    ghost use Rattle.std.specs.Prelude.{ℕ, List};
+    ghost use Rattle.std.specs.Ordering.{nat_cmp};
+    ghost use Rattle.std.specs.BTreeMap.{get};
+    ghost use Rattle.trace_places.specs.Places.{AreIndexed};
+
+    ghost Value = { List ℕ };
+
+    ghost view = { λ p. p.indices.items };
+
+    ghost invariant = { λ p. AreIndexed p.indices.items p.table.items (get nat_cmp p.others) };
+}
+
+impl Places {
+    /// No indices. The table has indices below `table_limit`.
+    pub fn new(alloc: Global, table_limit: usize) -> Places
+        ensures { result ≡ [] }
+    {
+        Places {
+            indices: Vec::new(alloc),
+            table: Vec::new(alloc),
+            table_limit,
+            others: BTreeMap::new(alloc),
+        }
+    }
+
+    /// The place where the index stands.
+    #[inline]
+    pub fn place(&self, index: u32) -> Option<u32>
+        ensures { result ≡ place_of self.now index }
+    {
+        let at = index as usize;
+        if at < self.table.len() && self.table[at] != 0 {
+            return Some(self.table[at] - 1);
+        }
+        self.others.get(&index).copied()
+    }
+
+    /// Appends an index that doesn't stand there yet.
+    pub fn push(&mut self, index: u32) -> Result<(), NoMemory>
+        requires { place_of self.old index ≡ None }
+        ensures appended { OnOk result (self.new ≡ self.old ++ index ∷ []) }
+        ensures unchanged { OnErr result (self.new ≡ self.old) }
+    {
+        if self.indices.len() >= u32::MAX as usize {
+            return Err(NoMemory);
+        }
+        let place = self.indices.len() as u32;
+        self.indices.reserve(1)?;
+        if (index as usize) < self.table_limit {
+            put(&mut self.table, self.table_limit, index, place + 1)?;
+            self.indices.push_reserved(index);
+            return Ok(());
+        }
+        self.others.insert(index, place)?;
+        self.indices.push_reserved(index);
+        Ok(())
+    }
+
+    /// The places of all these indices, appended to `found`, or the first index that doesn't stand there.
+    pub fn find_all(&self, indices: &[u32], found: &mut Vec<u32>) -> Result<Option<u32>, NoMemory>
+        ensures { IfOk result (λ unknown. MatchOption unknown (places_from self.now found.old.items indices.now ≡ Ok found.new.items) (λ x. places_from self.now found.old.items indices.now ≡ Err x)) }
+    {
+        for index in indices {
+            let Some(place) = self.place(*index) else {
+                return Ok(Some(*index));
+            };
+            found.push(place)?;
+        }
+        Ok(None)
+    }
+}
+
+/// Makes the table longer, but not longer than `limit`, so that it has this place.
+fn cover(table: &mut Vec<u32>, limit: usize, at: usize) -> Result<(), NoMemory>
+    requires { at < limit }
+    ensures covered { OnOk result (at < vec_len table.new) }
+    ensures same { (x : ℕ) → slice_index table.new.items x ≡ slice_index table.old.items x }
+{
+    if at < table.len() {
+        return Ok(());
+    }
+    let doubled = (2 * table.len() as u64).min(limit as u64) as usize;
+    table.resize(doubled.max(at + 1), 0)?;
+    Ok(())
+}
+
+/// Puts a number into the table, which gets longer for it, but not longer than `limit`.
+fn put(table: &mut Vec<u32>, limit: usize, index: u32, number: u32) -> Result<(), NoMemory>
+    requires { index < limit }
+    ensures set { OnOk result ((x : ℕ) → slice_index table.new.items x ≡ (if index == x then number else slice_index table.old.items x)) }
+    ensures same { OnErr result ((x : ℕ) → slice_index table.new.items x ≡ slice_index table.old.items x) }
+{
+    let at = index as usize;
+    cover(table, limit, at)?;
+    table[at] = number;
+    Ok(())
+}

@@ -10,6 +10,8 @@ mod clause_index;
 mod clause_set;
 mod clauses;
 mod cnf;
+#[cfg(test)]
+mod tests;
 mod trace;
 
 pub use clause_set::ClauseSet;

@@ -1,7 +1,7 @@
 -- The value of a BLIF text, and the first fault of a text that has no value.
-use Rattle.std.specs.Prelude.{◌≡◌, ◌≢◌, ℕ, ◌<◌, ◌≤◌, List, [], ◌∷◌, ◌++◌, length, Ok, Err}
+use Rattle.std.specs.Prelude.{◌≡◌, ◌≢◌, ℕ, ◌<◌, ◌≤◌, ◌⊎◌, List, [], ◌∷◌, ◌++◌, length, Ok, Err}
 use Rattle.blif_defs.specs.declared.mark.TheConstants.{MAX_BYTES}
-use Rattle.blif_defs.specs.Faults.{Fault, TooLong, Syntax, Unsupported, Mixed, DoubleDriven, RepeatedOutput, Limit, NoOutputs}
+use Rattle.blif_defs.specs.Faults.{Fault, TooLong, NoOutputs}
 use Rattle.blif_defs.specs.Values.{BlifValue}
 use Rattle.blif_defs.specs.Drafts.{Draft, start, value_of}
 use Rattle.blif_defs.specs.Grammar.{Statement, statements, with_words}
@@ -37,13 +37,9 @@ pub record LacksOutputs (text : List ℕ) : Type 0 where
   pub follows : Follows start (statements text) end
   pub outputs : end.outputs ≡ []
 
--- the first fault of the text
+-- fault is the first fault of the text: that it is too long, else that of its first faulty line, else
+-- that it has no output
 abbrev pub BlifFault : List ℕ → Fault → Type 0
-BlifFault text TooLong = MAX_BYTES < length text
-BlifFault text (Syntax line) = IsFirstFaultyLine text (Syntax line)
-BlifFault text (Unsupported line) = IsFirstFaultyLine text (Unsupported line)
-BlifFault text (Mixed line) = IsFirstFaultyLine text (Mixed line)
-BlifFault text (DoubleDriven line) = IsFirstFaultyLine text (DoubleDriven line)
-BlifFault text (RepeatedOutput line) = IsFirstFaultyLine text (RepeatedOutput line)
-BlifFault text (Limit line) = IsFirstFaultyLine text (Limit line)
-BlifFault text NoOutputs = LacksOutputs text
+BlifFault text fault =
+    ((MAX_BYTES < length text) × (fault ≡ TooLong))
+    ⊎ (IsFirstFaultyLine text fault ⊎ (LacksOutputs text × (fault ≡ NoOutputs)))

@@ -1,6 +1,5 @@
 -- The set of known names when a signal more comes.
-use Rattle.std.proofs.Common.{◌≡◌, ℕ, ◌+◌, Bool, true, false, ◌||◌, cond, List, [], ◌∷◌, ◌++◌, length, map, Option, None, refl, sym, ap, ◌∙◌, append_assoc, Bor, arith, eqb, ◌<◌, ◌≤◌, length-append}
-use Rattle.std.proofs.lemmas.Bool.Decides.{nat_tests}
+use Rattle.std.proofs.Common.{◌≡◌, ℕ, ◌+◌, Bool, true, false, ◌||◌, cond, List, [], ◌∷◌, ◌++◌, length, map, Option, None, refl, sym, ap, ◌∙◌, append_assoc, Bor, arith, ◌<◌, ◌≤◌, length-append}
 use Rattle.std.specs.Option.{option_to_list}
 use Rattle.std.specs.Str.{bytes_eq}
 use Rattle.std.specs.HashSet.{HashSet, contains_by, Updates}
@@ -8,6 +7,7 @@ use Rattle.std.proofs.lemmas.List.{map_push, append-nil}
 use Rattle.std.proofs.lemmas.List.Folds.{list_any-append}
 use Rattle.blif_defs.specs.Values.{CoverValue, signals_of}
 use Rattle.blif_defs.specs.Drafts.{is_among}
+use Rattle.blif_laws.proofs.Sets.{bytes_eq_comm}
 
 abbrev pub same_word : Bor (List ℕ) → Bor (List ℕ) → Bool
 same_word a b = bytes_eq a.now b.now
@@ -16,15 +16,6 @@ same_word a b = bytes_eq a.now b.now
 pub known_more : {S : Type 0} (old new : HashSet (Bor (List ℕ)) S) (name : Bor (List ℕ)) → Updates same_word old new name true → (q : List ℕ)
     → contains_by (λ k. bytes_eq q k.now) new ≡ cond (bytes_eq name.now q) true (contains_by (λ k. bytes_eq q k.now) old)
 known_more old new name u q = u.0 (record { ref_ptr = (0, 0); now = q })
-
-eqb_comm : (a b : ℕ) → eqb a b ≡ eqb b a
-eqb_comm a b = grind (arith, nat_tests)
-
-bytes_eq_comm : (a b : List ℕ) → bytes_eq a b ≡ bytes_eq b a
-bytes_eq_comm [] [] = refl
-bytes_eq_comm [] (b ∷ bs) = refl
-bytes_eq_comm (a ∷ as_) [] = refl
-bytes_eq_comm (a ∷ as_) (b ∷ bs) = rw (eqb_comm a b, bytes_eq_comm as_ bs) refl
 
 either_way : (a e c : Bool) → ((a || (e || false)) || c) ≡ cond e true (a || c)
 either_way true true c = refl

@@ -1,4 +1,4 @@
 pub mod Lines
 pub mod Index
-pub mod Joining
 pub mod Reading
+pub mod Whole

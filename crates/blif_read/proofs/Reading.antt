@@ -16,8 +16,8 @@ use Rattle.blif_read.specs.declared.error.BlifError.{BlifError}
 use Rattle.blif_read.specs.declared.error.BlifError.TheVariants as errors
 use Rattle.blif_read.specs.Reads.{Fails}
 use Rattle.blif_read.specs.Views.{texts}
-use Rattle.blif_read.proofs.Lines.{some_left}
-use Rattle.blif_read.proofs.Joining.{put_in_front, from_line, last_line, single_line, nothing_in_front, joined_line}
+use Rattle.blif_laws.proofs.LineLemmas.{some_left}
+use Rattle.blif_laws.proofs.Joining.{put_in_front, from_line, last_line, single_line, nothing_in_front, joined_line}
 
 abbrev pub is_feed : ℕ → Bool
 is_feed b = b == 10

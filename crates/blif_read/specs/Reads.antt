@@ -24,3 +24,15 @@ Gives view (Err e) read = Fails e read
 -- the error is that fault
 abbrev pub IsFault : BlifError → Fault → Type 0
 IsFault e fault = Fails {Y = Unit {0}} e (Err fault)
+
+-- the error has this property as a fault; want of memory is no fault
+abbrev pub IsFaultWith : (Fault → Type 0) → BlifError → Type 0
+IsFaultWith P errors.TooLong = P TooLong
+IsFaultWith P (errors.Syntax line) = P (Syntax line)
+IsFaultWith P (errors.Unsupported line) = P (Unsupported line)
+IsFaultWith P (errors.Mixed line) = P (Mixed line)
+IsFaultWith P (errors.DoubleDriven line) = P (DoubleDriven line)
+IsFaultWith P (errors.RepeatedOutput line) = P (RepeatedOutput line)
+IsFaultWith P (errors.Limit line) = P (Limit line)
+IsFaultWith P errors.NoOutputs = P NoOutputs
+IsFaultWith P errors.NoMemory = Unit {0}

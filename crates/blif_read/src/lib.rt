@@ -11,6 +11,7 @@ mod error;
 mod kind;
 mod line;
 mod names;
+mod print;
 mod read;
 mod reader;
 mod row;
@@ -20,5 +21,9 @@ pub use blif_defs::Mark;
 pub use cover::{Cover, Covers};
 pub use error::BlifError;
 pub use names::Names;
+pub use print::print_blif;
 pub use read::read_blif;
 pub use row::{Row, Rows};
+
+#[cfg(test)]
+mod tests;

@@ -1,10 +1,13 @@
 //! Reading a text: its lines are joined, and each joined line is read once.
-ghost use Rattle.std.specs.Prelude.{◌≡◌, ◌≤◌, ◌++◌, ℕ, Bool, List, length, IfOk, Ok};
+ghost use Rattle.std.specs.Prelude.{◌≡◌, ◌≤◌, ◌++◌, ℕ, Bool, List, length, IfOk, IfErr, Ok, Err};
 ghost use Rattle.blif_defs.specs.Drafts.{start};
 ghost use Rattle.blif_defs.specs.Words.{words};
 ghost use Rattle.blif_defs.specs.Lines.{joins, content, without_last};
 ghost use Rattle.blif_defs.specs.Grammar.{statements, with_statements, reading};
-ghost use Rattle.blif_read.specs.Reads.{Gives};
+ghost use Rattle.blif_defs.specs.Faults.{Fault};
+ghost use Rattle.blif_defs.specs.Values.{BlifValue, IsBlif};
+ghost use Rattle.blif_defs.specs.Texts.{BlifText, BlifFault};
+ghost use Rattle.blif_read.specs.Reads.{Gives, IsFaultWith};
 ghost use Rattle.blif_read.specs.Views.{texts, blif_of};
 ghost use Rattle.blif_read.specs.Readers.{draft_of, IsIndexed};
 
@@ -69,12 +72,27 @@ fn read_lines<'a>(alloc: Global, text: &'a [u8]) -> Result<Reader<'a>, BlifError
     }
 }
 
-/// The value of a text in BLIF, or its first fault, as `blif_defs` says what a text means.
-pub fn read_blif(alloc: Global, b: &[u8]) -> Result<Blif, BlifError>
+/// The value of a text or its first fault, as `reading` computes it.
+fn read_text(alloc: Global, b: &[u8]) -> Result<Blif, BlifError>
     ensures { Gives blif_of result (reading b.now) }
 {
     if b.len() > MAX_BYTES {
         return Err(BlifError::TooLong);
     }
     read_lines(alloc, b)?.finish()
+}
+
+/// The value of a text in BLIF, or its first fault, as `blif_defs` says what a text means.
+pub fn read_blif(alloc: Global, b: &[u8]) -> Result<Blif, BlifError>
+    // What is read is the value of the text, and a design within the limits.
+    ensures value { IfOk result (λ m. BlifText b.now (blif_of m)) }
+    ensures design { IfOk result (λ m. IsBlif (blif_of m)) }
+    // The fault is the first one.
+    ensures fault { IfErr result (IsFaultWith (BlifFault b.now)) }
+    // Where the text has a value, that is read; where it has a first fault, that is answered.
+    ensures only_value { (m : BlifValue) → BlifText b.now m → Gives blif_of result (Ok m) }
+    ensures only_fault { (fault : Fault) → BlifFault b.now fault → Gives blif_of result (Err fault) }
+    ensures exact { Gives blif_of result (reading b.now) }
+{
+    read_text(alloc, b)
 }

@@ -1,7 +1,8 @@
 use Rattle.std.proofs.Common.{sym, ◌∙◌, ap, ◌++◌, List, ℕ, length}
 use Rattle.blif_defs.specs.Words.{words}
 use Rattle.blif_read.specs.Views.{texts}
-use Rattle.blif_read.proofs.Lines.{words_skip, words_pushed, some_left}
+use Rattle.blif_laws.proofs.LineLemmas.{words_skip, some_left}
+use Rattle.blif_read.proofs.Lines.{words_pushed}
 use Rattle.blif_read.proofs.line.push_words.Goals as goal
 
 pub loop-rest-preserved-then-is_blank : goal.loop-rest-preserved-then-is_blank

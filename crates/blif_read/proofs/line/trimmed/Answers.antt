@@ -1,5 +1,5 @@
 use Rattle.std.proofs.Common.{sym, arith, ◌∙◌}
-use Rattle.blif_read.proofs.Lines.{trimmed_step, trimmed_whole}
+use Rattle.blif_laws.proofs.LineLemmas.{trimmed_step, trimmed_whole}
 use Rattle.blif_read.proofs.line.trimmed.Goals as goal
 
 pub returns-then-not-is_blank : goal.returns-then-not-is_blank

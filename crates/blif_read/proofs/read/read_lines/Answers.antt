@@ -4,9 +4,9 @@ use Rattle.blif_defs.specs.Drafts.{start}
 use Rattle.blif_defs.specs.Grammar.{with_words, with_statements, statements}
 use Rattle.blif_read.specs.Views.{texts}
 use Rattle.blif_read.specs.Readers.{draft_of}
-use Rattle.blif_read.proofs.Joining.{put_in_front, from_line}
+use Rattle.blif_laws.proofs.Joining.{put_in_front, from_line}
 use Rattle.blif_read.proofs.Reading.{last_step, single_step, join_step, lines, lines_begin, goes_on, fails}
-use Rattle.blif_read.proofs.Lines.{some_left}
+use Rattle.blif_laws.proofs.LineLemmas.{some_left}
 use Rattle.blif_read.proofs.read.read_lines.Goals as goal
 
 pub lines-init : goal.lines-init

@@ -5,7 +5,7 @@ use Rattle.blif_defs.specs.Drafts.{start}
 use Rattle.blif_defs.specs.Grammar.{statements, with_statements}
 use Rattle.blif_read.specs.Views.{texts}
 use Rattle.blif_read.specs.Readers.{draft_of, IsIndexed}
-use Rattle.blif_read.proofs.Joining.{put_in_front, from_line}
+use Rattle.blif_laws.proofs.Joining.{put_in_front, from_line}
 use Rattle.blif_read.proofs.read.read_lines.Given as goal
 
 -- what goes on from here gives what the whole text gives; each line before took a byte at least

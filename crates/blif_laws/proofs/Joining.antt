@@ -4,7 +4,7 @@ use Rattle.text_defs.specs.Tokens.{begins_with_token}
 use Rattle.blif_defs.specs.Words.{is_blank, words}
 use Rattle.blif_defs.specs.Lines.{Line, joined, joined_to, joins, content}
 use Rattle.blif_defs.specs.Grammar.{Statement, statement_of}
-use Rattle.blif_read.proofs.Lines.{plain_words, words_by, words-is}
+use Rattle.blif_laws.proofs.LineLemmas.{plain_words, words_by, words-is}
 
 -- ---- words on both sides of a blank
 

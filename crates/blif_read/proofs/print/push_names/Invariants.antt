@@ -1,0 +1,6 @@
+use Rattle.std.proofs.Common.{◌≡◌, ◌++◌, take}
+use Rattle.blif_defs.specs.Printing.{spaced}
+use Rattle.blif_read.proofs.print.push_names.Given as goal
+
+abbrev pub invariant-loop-name : goal.invariant-loop-name
+invariant-loop-name l = l.out.items ≡ l.fn.out.items ++ spaced (take l.name-index l.names)

@@ -9,13 +9,13 @@ use sat_values::Trace;
 
 /// Follows the chain of the clause at place `k`, counted from 0, which has antecedents.
 ///
-/// The marks are to cover the variables of the trace. They hold no clause that the next call would
-/// look at. Takes no memory.
+/// The marks are to cover the variables of the trace. What they held before doesn't matter. Takes no
+/// memory.
 ///
 /// # Errors
 ///
-/// The first faulty step, or that all steps pass and the result isn't the clause that the trace
-/// states (`ChainFault`).
+/// The first faulty step, or `Other` where all steps pass and the result isn't the clause that the
+/// trace states (`ChainFault`). A clause is a set: its literals are compared as one.
 pub fn check_chain(t: &Trace, k: u32, m: &mut Marks) -> Result<(), ChainError>
     requires within { k < length t.now }
     requires derived { antecedents_at t.now k ≢ [] }

@@ -161,7 +161,7 @@ impl Marks {
     }
 
     /// Whether no literal stands in the running clause.
-    fn is_empty(&self) -> bool
+    pub(crate) fn is_empty(&self) -> bool
         ensures { IsTrue result ↔ (self.now.running ≡ []) }
     {
         self.count == 0

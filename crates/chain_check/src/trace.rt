@@ -62,3 +62,6 @@ pub fn ends_empty(t: &Trace) -> bool
     let len = t.len();
     len > 0 && t.lits(len - 1).is_empty()
 }
+
+#[cfg(test)]
+mod tests;

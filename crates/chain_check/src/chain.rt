@@ -34,7 +34,7 @@ pub fn check_chain(t: &Trace, k: u32, m: &mut Marks) -> Result<(), ChainError>
             Clash::Once => {}
         }
     }
-    if m.takes_out(t.lits(k)) {
+    if m.comes_to(t.lits(k)) {
         Ok(())
     } else {
         Err(ChainError::Other { clause })

@@ -105,7 +105,8 @@ impl Marks {
         self.first <= number && number < self.current
     }
 
-    /// Adds a literal in the step in work, and says whether it is new.
+    /// Adds a literal in the step in work, and says whether it stood in neither the running clause
+    /// nor what the step had added.
     fn add(&mut self, l: Lit) -> bool
         requires within { l.variable ≤ self.old.variables }
         requires room { 0 < self.old.left }
@@ -115,7 +116,6 @@ impl Marks {
         ensures fresh { (x : Literal)
             → Has self.new.fresh x ↔ (Has self.old.fresh x ⊎ ((x ≡ l) × (Has self.old.running x → ⊥))) }
         ensures new { OnTrue result (length self.new.fresh ≡ length self.old.fresh + 1) }
-        ensures new_to_running { OnTrue result (Has self.old.running l → ⊥) }
         ensures there { OnFalse result (length self.new.fresh ≡ length self.old.fresh) }
     {
         let place = l.code() as usize;
@@ -226,9 +226,9 @@ impl Marks {
         Clash::Once
     }
 
-    /// Whether the running clause is this one, as a set. Of the running clause only what isn't in
-    /// the other clause is left.
-    pub(crate) fn takes_out(&mut self, c: &[Lit]) -> bool
+    /// Whether the running clause is this one, as a set. Takes the clause's literals out of it, so
+    /// that nothing is left where the two are the same.
+    pub(crate) fn comes_to(&mut self, c: &[Lit]) -> bool
         requires within { WithinVariables self.old.variables c.now }
         requires ordered { IsOrdered c.now }
         requires between_steps { self.old.fresh ≡ [] }

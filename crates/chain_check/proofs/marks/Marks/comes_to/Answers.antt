@@ -3,7 +3,7 @@ use Rattle.std.proofs.lemmas.Bool.{true≢false}
 use Rattle.std.proofs.lemmas.List.{take_all}
 use Rattle.clause_defs.specs.Clauses.{Has, Lits}
 use Rattle.chain_check.proofs.ClauseLists.{Has-take_more, Has-get, has_cases, take-distinct, none_from}
-use Rattle.chain_check.proofs.marks.Marks.takes_out.Goals as goal
+use Rattle.chain_check.proofs.marks.Marks.comes_to.Goals as goal
 
 pub remove-requires-clause-within : goal.remove-requires-clause-within
 remove-requires-clause-within c =

@@ -1,0 +1,10 @@
+pub mod StateLemmas
+pub mod SortingSteps
+pub mod OrderLemmas
+pub mod SearchLemmas
+pub mod EvalLemmas
+pub mod IndexLemmas
+pub mod ZipLemmas
+pub mod BuildLemmas
+pub mod NetworkLemmas
+pub mod RowLemmas

@@ -1,0 +1,16 @@
+use Rattle.std.proofs.Common.{◌≡◌, ◌<◌, length, slice_index}
+use Rattle.netlist.specs.Sortings.{state_at, StaysDone}
+use Rattle.netlist.specs.Searches.{IsSound, work_of}
+use Rattle.netlist.specs.declared.order.State.TheVariants.{New}
+use Rattle.netlist.proofs.order.Sorting.settle.Given as goal
+
+abbrev pub invariant-loop-v : goal.invariant-loop-v
+invariant-loop-v l = record {
+  sound : IsSound l.parts l.self;
+  stays : StaysDone l.fn.self.states.items l.self.states.items;
+  bottom : 0 < length l.self.stack.items → slice_index l.self.stack.items 0 ≡ l.root;
+  met : state_at l.self.states.items l.root ≡ New → ⊥;
+}
+
+abbrev pub decreases-loop-v : goal.decreases-loop-v
+decreases-loop-v l = work_of l.self

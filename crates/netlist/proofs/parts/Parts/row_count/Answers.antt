@@ -1,0 +1,15 @@
+use Rattle.std.proofs.Common.{length, arith, ap}
+use Rattle.netlist.proofs.RowLemmas.{rows_fit}
+use Rattle.netlist.proofs.parts.Parts.row_count.Goals as goal
+
+pub overflow_cast-count : goal.overflow_cast-count
+overflow_cast-count c =
+    let small = rows_fit c.args.self.now c.nodes-node-items.result.now c.loop-node.node-index c.node-item.result c.requires c.nodes-node-items.ensures (omega arith) c.node-item.is in
+    let e = ap length c.rows.ensures in
+    omega (arith, small, e)
+
+pub overflow_add-count : goal.overflow_add-count
+overflow_add-count c =
+    let small = rows_fit c.args.self.now c.nodes-node-items.result.now c.loop-node.node-index c.node-item.result c.requires c.nodes-node-items.ensures (omega arith) c.node-item.is in
+    let e = ap length c.rows.ensures in
+    omega (arith, small, e, c.loop-node.invariant)

@@ -1,0 +1,6 @@
+pub mod Orders
+pub mod Sortings
+pub mod Searches
+pub mod Places
+pub mod Index
+pub mod Resolving

@@ -1,5 +1,5 @@
 -- The first token of a CNF.
-use Rattle.std.proofs.Common.{◌≡◌, ℕ, ◌<◌, ◌≤◌, ◌⊎◌, List, length, drop, false, refl, sym, ap, ◌∙◌, inl, inr, nat_lt, arith}
+use Rattle.std.proofs.Common.{◌≡◌, ℕ, ◌≤◌, List, length, drop, false, refl, ap, ◌∙◌, inl, inr, nat_lt, arith}
 use Rattle.std.proofs.lemmas.Bool.{cases_lt, le-ltb}
 use Rattle.sat_text_defs.specs.declared.fault.TheConstants.{MAX_CNF_BYTES}
 use Rattle.sat_text_defs.specs.CnfText.{tokens_of, line_end}

@@ -1,5 +1,5 @@
 -- What the trace keeps when a judged clause is appended.
-use Rattle.std.proofs.Common.{◌≡◌, ◌≢◌, ℕ, zero, suc, ◌+◌, ◌<◌, List, [], ◌∷◌, length, get_or, map, None, Ok, refl, sym, ap, ◌∙◌, arith}
+use Rattle.std.proofs.Common.{◌≡◌, ◌≢◌, ℕ, zero, suc, ◌<◌, List, [], ◌∷◌, length, get_or, None, Ok, refl, sym, ap, ◌∙◌, arith}
 use Rattle.clause_defs.specs.Clauses.{Has}
 use Rattle.clause_defs.specs.Traces.{Entry, index_at}
 use Rattle.sat_text_defs.specs.TraceReading.{place_of, places_from, indices_of}

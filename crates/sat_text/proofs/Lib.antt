@@ -1,3 +1,4 @@
 mod Judging
 mod FirstWord
 mod ClauseByClause
+mod Pieces

@@ -2,3 +2,4 @@ pub mod Answers
 pub mod Raw
 pub mod Header
 pub mod Values
+pub mod Printed

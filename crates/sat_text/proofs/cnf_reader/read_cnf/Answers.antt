@@ -1,4 +1,4 @@
-use Rattle.std.proofs.Common.{◌≡◌, ◌≤◌, length, Result, sym, subst, arith}
+use Rattle.std.proofs.Common.{◌≤◌, length, Result, sym, subst, arith}
 use Rattle.sat_text_defs.specs.declared.fault.CnfFault.{CnfFault}
 use Rattle.sat_text_defs.specs.declared.fault.TheConstants.{MAX_CNF_BYTES}
 use Rattle.sat_text_defs.specs.CnfText.{Formula}

@@ -1,4 +1,4 @@
-use Rattle.std.proofs.Common.{◌≡◌, ◌≤◌, length, [], arith}
+use Rattle.std.proofs.Common.{◌≤◌, length, [], arith}
 use Rattle.std.proofs.lemmas.Result.{err_from_is_err_and}
 use Rattle.sat_text_defs.specs.declared.fault.TheConstants.{MAX_TRACE_BYTES}
 use Rattle.sat_text_defs.specs.TraceReading.{trace_from, start}

@@ -1,4 +1,4 @@
-use Rattle.std.proofs.Common.{◌≡◌, ℕ, ◌+◌, List, [], length, subst, ap, arith}
+use Rattle.std.proofs.Common.{◌≡◌, ℕ, List, [], length, subst, ap, arith}
 use Rattle.clause_defs.specs.Clauses.{Has}
 use Rattle.trace_places.proofs.PlaceLemmas.{places_from-length}
 use Rattle.sat_text.proofs.Judging.{index_is_other, places_are_earlier}

@@ -1,0 +1,8 @@
+use Rattle.std.proofs.Common.{◌≡◌, ◌++◌, drop}
+use Rattle.std.specs.List.{flat_map}
+use Rattle.sat_text.specs.Printed.{line_of, cnf_text}
+use Rattle.sat_text.specs.Values.{formula_of}
+use Rattle.sat_text.proofs.printing.print_cnf.Given as goal
+
+abbrev pub invariant-loop-k : goal.invariant-loop-k
+invariant-loop-k l = l.out.items ++ flat_map line_of (drop l.k l.c.clauses) ≡ cnf_text (formula_of l.c)

@@ -1,0 +1,7 @@
+use Rattle.std.proofs.Common.{◌≡◌, ◌++◌, drop}
+use Rattle.std.specs.List.{flat_map}
+use Rattle.sat_text.specs.Printed.{trace_line, trace_text}
+use Rattle.sat_text.proofs.printing.print_trace.Given as goal
+
+abbrev pub invariant-loop-k : goal.invariant-loop-k
+invariant-loop-k l = l.out.items ++ flat_map (trace_line l.t) (drop l.k l.t) ≡ trace_text l.t

@@ -15,6 +15,8 @@ mod named_files;
 mod out_sink;
 mod sink;
 mod store;
+#[cfg(test)]
+mod tests;
 mod whole;
 
 pub use file_store::FileStore;

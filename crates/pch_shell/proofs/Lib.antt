@@ -1,0 +1,4 @@
+pub mod EndingLemmas
+pub mod DueLemmas
+pub mod FormulaLemmas
+pub mod BytesLemmas

@@ -1,0 +1,9 @@
+pub mod Statuses
+pub mod Words
+pub mod Seen
+pub mod Lines
+pub mod Endings
+pub mod Texts
+pub mod Check
+pub mod ErrorLines
+pub mod Due

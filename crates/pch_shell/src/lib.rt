@@ -1,0 +1,15 @@
+//! The program's commands, from words to the line that is written and the exit status.
+#![tactic(auto)]
+
+mod check;
+mod commands;
+mod ending;
+mod line;
+mod status;
+mod words;
+
+pub use commands::{command, top};
+pub use ending::{Ending, finish};
+pub use line::Line;
+pub use status::Status;
+pub use words::{Command, command_of};

@@ -4,3 +4,6 @@ pub mod Following
 pub mod Sets
 pub mod LineWords
 pub mod Designs
+pub mod LineTexts
+pub mod PrintedWords
+pub mod PrintedLines

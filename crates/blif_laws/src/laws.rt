@@ -1,8 +1,11 @@
-ghost use Rattle.std.specs.Prelude.{◌≡◌, ℕ, List, Ok, Err};
+ghost use Rattle.std.specs.Prelude.{◌≡◌, ◌≤◌, ℕ, List, length, Ok, Err};
 ghost use Rattle.blif_defs.specs.Faults.{Fault};
 ghost use Rattle.blif_defs.specs.Values.{BlifValue, IsBlif};
 ghost use Rattle.blif_defs.specs.Grammar.{reading};
+ghost use Rattle.blif_defs.specs.Printing.{blif_text};
 ghost use Rattle.blif_defs.specs.Texts.{BlifText, BlifFault};
+
+use blif_defs::MAX_BYTES;
 
 /// `reading` answers the value of each text that has one, and no other value.
 pub fn value_is_read()
@@ -19,4 +22,10 @@ pub fn first_fault_is_read()
 /// The value of a text is a design within the limits.
 pub fn value_is_design()
     ensures { (text : List ℕ) (m : BlifValue) → BlifText text m → IsBlif m }
+{}
+
+/// The printed text of a design within the limits has that design as its value, where it isn't too
+/// long.
+pub fn printed_text_is_read()
+    ensures { (m : BlifValue) → IsBlif m → length (blif_text m) ≤ MAX_BYTES → BlifText (blif_text m) m }
 {}

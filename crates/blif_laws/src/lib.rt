@@ -6,4 +6,4 @@
 
 mod laws;
 
-pub use laws::{first_fault_is_read, value_is_design, value_is_read};
+pub use laws::{first_fault_is_read, printed_text_is_read, value_is_design, value_is_read};

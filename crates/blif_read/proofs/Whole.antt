@@ -1,11 +1,14 @@
 -- What a reader of whole texts answers.
-use Rattle.std.proofs.Common.{ℕ, List, Result, Ok, Err, subst}
+use Rattle.std.proofs.Common.{◌≡◌, Vec, Global, length, ◌≤◌, sym, ℕ, List, Result, Ok, Err, subst}
 use Rattle.std.specs.Prelude.{IfOk, IfErr}
 use Rattle.blif_defs.specs.Faults.{Fault}
 use Rattle.blif_defs.specs.Values.{BlifValue, IsBlif}
 use Rattle.blif_defs.specs.Grammar.{reading}
 use Rattle.blif_defs.specs.Texts.{BlifText, BlifFault}
 use Rattle.blif_laws.proofs.Following.{value_read, fault_read, read_value, read_fault}
+use Rattle.blif_defs.specs.declared.mark.TheConstants.{MAX_BYTES}
+use Rattle.blif_defs.specs.Printing.{blif_text}
+use Rattle.blif_laws.proofs.PrintedLines.{printed_again}
 use Rattle.blif_laws.proofs.Designs.{design_of_text}
 use Rattle.blif_read.specs.declared.blif.Blif.{Blif}
 use Rattle.blif_read.specs.declared.error.BlifError.{BlifError}
@@ -44,3 +47,10 @@ only_value text r m h t = subst (Answers r) (read_value text m t) h
 
 pub only_fault : (text : List ℕ) (r : Result Blif BlifError) (fault : Fault) → Gives blif_of r (reading text) → BlifFault text fault → Gives blif_of r (Err fault)
 only_fault text r fault h t = subst (Answers r) (read_fault text fault t) h
+
+-- what was printed is read again
+pub printed_is_read : {E : Type 0} (m : BlifValue) (r : Result (Vec ℕ Global) E) → IfOk r (λ v. v.items ≡ blif_text m) → IsBlif m
+    → IfOk r (λ v. length v.items ≤ MAX_BYTES → BlifText v.items m)
+printed_is_read m (Ok v) h design =
+    subst (λ (text : List ℕ). length text ≤ MAX_BYTES → BlifText text m) (sym h) (printed_again m design)
+printed_is_read m (Err e) h design = tt

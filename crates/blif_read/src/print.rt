@@ -3,12 +3,13 @@ ghost use Rattle.std.specs.Prelude.{◌≡◌, ◌≤◌, ℕ, Bool, List, [], �
 ghost use Rattle.std.specs.List.{flat_map};
 ghost use Rattle.blif_defs.specs.Values.{IsBlif};
 ghost use Rattle.blif_defs.specs.Printing.{mark_byte, bit_word, row_words, cover_lines, model_lines, input_lines, spaced, line_text, blif_text};
+ghost use Rattle.blif_defs.specs.Texts.{BlifText};
 ghost use Rattle.blif_read.specs.Views.{blif_of, cover_of};
 
 use crate::blif::Blif;
 use crate::cover::Cover;
 use crate::row::Row;
-use blif_defs::Mark;
+use blif_defs::{MAX_BYTES, Mark};
 use pch_base::{Name, NoMemory};
 use std::alloc::Global;
 
@@ -129,8 +130,7 @@ fn push_outputs(out: &mut Vec<u8>, outputs: &[Name]) -> Result<(), NoMemory>
     Ok(())
 }
 
-/// The text of a design: each line with one space between its words.
-pub fn print_blif(alloc: Global, b: &Blif) -> Result<Vec<u8>, NoMemory>
+fn printed(alloc: Global, b: &Blif) -> Result<Vec<u8>, NoMemory>
     ensures { IfOk result (λ v. v.items ≡ blif_text (blif_of b.now)) }
 {
     let mut out = Vec::new(alloc);
@@ -140,4 +140,13 @@ pub fn print_blif(alloc: Global, b: &Blif) -> Result<Vec<u8>, NoMemory>
     push_covers(&mut out, b.covers.as_slice())?;
     out.extend_from_slice(b".end\n")?;
     Ok(out)
+}
+
+/// The text of a design: each line with one space between its words. It is read again, where the
+/// design is one that `read_blif` can give and the text isn't too long.
+pub fn print_blif(alloc: Global, b: &Blif) -> Result<Vec<u8>, NoMemory>
+    ensures text { IfOk result (λ v. v.items ≡ blif_text (blif_of b.now)) }
+    ensures again { IsBlif (blif_of b.now) → IfOk result (λ v. length v.items ≤ MAX_BYTES → BlifText v.items (blif_of b.now)) }
+{
+    printed(alloc, b)
 }

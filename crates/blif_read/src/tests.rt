@@ -119,6 +119,10 @@ fn texts_are_read_and_printed(rt: HostRuntime) -> Result<(), Fail> {
     for (text, want) in CASES {
         let found = answer(alloc, text.as_bytes())?;
         assert_eq!(rt; found.as_slice(), want.as_bytes(), "at {text:?}");
+        if want.starts_with('.') {
+            let again = answer(alloc, &found)?;
+            assert_eq!(rt; again, found, "again at {text:?}");
+        }
         let slow = plain::answer(alloc, text.as_bytes())?;
         assert_eq!(rt; slow.as_slice(), want.as_bytes(), "slowly at {text:?}");
     }

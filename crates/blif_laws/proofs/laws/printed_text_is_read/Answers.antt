@@ -1,0 +1,5 @@
+use Rattle.blif_laws.proofs.PrintedLines.{printed_again}
+use Rattle.blif_laws.proofs.laws.printed_text_is_read.Goals as goal
+
+pub returns : goal.returns
+returns c = printed_again

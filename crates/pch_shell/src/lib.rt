@@ -6,6 +6,8 @@ mod commands;
 mod ending;
 mod line;
 mod status;
+#[cfg(test)]
+mod tests;
 mod words;
 
 pub use commands::{command, top};

@@ -1,0 +1,80 @@
+use super::*;
+use pch_base::Name;
+use pch_io::{MemSink, MemStore, OpenGate};
+use std::alloc::{AllocError, Global};
+use std::test::Fail;
+
+const FORMULA: &[u8] = b"p cnf 1 2\n1 0\n-1 0\n";
+
+const TRACE: &[u8] = b"1 1 0 0\n2 -1 0 0\n3 0 1 2 0\n";
+
+fn named(alloc: Global, name: &str) -> Result<Name, AllocError> {
+    Name::from_bytes(alloc, name.as_bytes()).map_err(|_| AllocError)
+}
+
+/// A store with the files `c` and `t`, of which the calls with these numbers fail.
+fn store(alloc: Global, failing: Vec<u32>) -> Result<MemStore, AllocError> {
+    let mut files = Vec::new(alloc);
+    files.push((named(alloc, "c")?, FORMULA.to_vec(alloc)?))?;
+    files.push((named(alloc, "t")?, TRACE.to_vec(alloc)?))?;
+    MemStore::new(alloc, files, failing).map_err(|_| AllocError)
+}
+
+fn words(alloc: Global, trace: &str) -> Result<Vec<String>, AllocError> {
+    let mut words = Vec::new(alloc);
+    words.push(String::from_str(alloc, "check")?)?;
+    words.push(String::from_str(alloc, "c")?)?;
+    words.push(String::from_str(alloc, trace)?)?;
+    Ok(words)
+}
+
+#[test]
+fn memory_is_not_always_wanting(rt: HostRuntime) -> Result<(), Fail> {
+    let alloc = rt.alloc();
+    let mut store = store(alloc, Vec::new(alloc))?;
+    let mut out = MemSink::new(alloc, Vec::new(alloc));
+    let status = top(
+        &rt,
+        alloc,
+        &words(alloc, "t")?,
+        &mut store,
+        &mut out,
+        &OpenGate,
+    );
+    assert!(rt; status == Status::Done);
+    assert!(rt; out.bytes() == b"verified\n".as_slice());
+    Ok(())
+}
+
+#[test]
+fn failing_load_is_answered(rt: HostRuntime) -> Result<(), Fail> {
+    let alloc = rt.alloc();
+    let mut store = store(alloc, vec![in alloc; 2]?)?;
+    let mut out = MemSink::new(alloc, Vec::new(alloc));
+    let status = command(&rt, alloc, &words(alloc, "t")?, &mut store, &mut out);
+    assert!(rt; status == Status::Store);
+    assert!(rt; out.bytes() == b"store t failed\n".as_slice());
+    Ok(())
+}
+
+#[test]
+fn absent_file_is_answered(rt: HostRuntime) -> Result<(), Fail> {
+    let alloc = rt.alloc();
+    let mut store = store(alloc, Vec::new(alloc))?;
+    let mut out = MemSink::new(alloc, Vec::new(alloc));
+    let status = command(&rt, alloc, &words(alloc, "u")?, &mut store, &mut out);
+    assert!(rt; status == Status::Store);
+    assert!(rt; out.bytes() == b"store u absent\n".as_slice());
+    Ok(())
+}
+
+#[test]
+fn failing_put_is_answered(rt: HostRuntime) -> Result<(), Fail> {
+    let alloc = rt.alloc();
+    let mut store = store(alloc, Vec::new(alloc))?;
+    let mut out = MemSink::new(alloc, vec![in alloc; 1]?);
+    let status = command(&rt, alloc, &words(alloc, "t")?, &mut store, &mut out);
+    assert!(rt; status == Status::Sink);
+    assert!(rt; out.bytes().is_empty());
+    Ok(())
+}

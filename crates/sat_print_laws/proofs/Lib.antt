@@ -1,0 +1,3 @@
+pub mod SpelledWords
+pub mod PrintedWords
+pub mod PrintedTrace

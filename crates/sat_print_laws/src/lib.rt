@@ -1,0 +1,9 @@
+//! What the printers of CNFs and traces print is read again.
+//!
+//! Each function of this crate does nothing. Its contract is a law, which whoever calls it can rely
+//! on.
+#![tactic(auto)]
+
+mod laws;
+
+pub use laws::printed_trace_is_read_again;

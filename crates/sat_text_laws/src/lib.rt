@@ -1,6 +1,9 @@
-//! Laws of the texts of CNFs and traces: what is computed of a word is what it spells.
+//! Laws of the texts of CNFs and traces: what is computed of a word is what it spells, and what is computed of the
+//! text of a trace is the trace that it is written for.
 #![tactic(auto)]
 
 mod laws;
 
-pub use laws::positive_words_are_spelled;
+pub use laws::{
+    computed_traces_are_written, positive_words_are_spelled, written_traces_are_computed,
+};

@@ -15,7 +15,9 @@ use Rattle.sat_text.specs.declared.errors.CnfError.{CnfError}
 use Rattle.sat_text.specs.declared.errors.CnfError.TheVariants as cnf_errors
 use Rattle.sat_text.specs.declared.errors.TraceError.{TraceError}
 use Rattle.sat_text.specs.declared.errors.TraceError.TheVariants as trace_errors
-use Rattle.pch_shell.specs.Texts.{CnfText, TraceText}
+use Rattle.sat_text_laws.proofs.TraceReads.{trace_in-text}
+use Rattle.cnf_laws.proofs.ValueLemmas.{text_of_cnf_in}
+use Rattle.cnf_laws.proofs.FaultLemmas.{fault_of_cnf_in}
 use Rattle.pch_shell.specs.Lines.{ended}
 use Rattle.pch_shell.specs.Check.{refused_line}
 use Rattle.pch_shell.specs.ErrorLines.{cnf_error_line, trace_error_line}
@@ -31,13 +33,13 @@ cnf_fault_due : (c t cnf trace : List ℕ) (error : CnfError) (status : Status) 
     → FailsCnf {Y = Formula} error (cnf_in cnf) → error ≢ cnf_errors.NoMemory → status ≡ BadInput → text ≡ cnf_error_line c error
     → BytesDue c t cnf trace status text
 cnf_fault_due c t cnf trace cnf_errors.TooLong status text fails some e line =
-    at_status c t cnf trace BadInput status text e (inl (cnf_faults.TooLong, fails, line))
+    at_status c t cnf trace BadInput status text e (inl (cnf_faults.TooLong, fault_of_cnf_in cnf cnf_faults.TooLong fails, line))
 cnf_fault_due c t cnf trace (cnf_errors.Syntax at) status text fails some e line =
-    at_status c t cnf trace BadInput status text e (inl (cnf_faults.Syntax at, fails, line))
+    at_status c t cnf trace BadInput status text e (inl (cnf_faults.Syntax at, fault_of_cnf_in cnf (cnf_faults.Syntax at) fails, line))
 cnf_fault_due c t cnf trace (cnf_errors.VarRange at) status text fails some e line =
-    at_status c t cnf trace BadInput status text e (inl (cnf_faults.VarRange at, fails, line))
+    at_status c t cnf trace BadInput status text e (inl (cnf_faults.VarRange at, fault_of_cnf_in cnf (cnf_faults.VarRange at) fails, line))
 cnf_fault_due c t cnf trace (cnf_errors.Count said found) status text fails some e line =
-    at_status c t cnf trace BadInput status text e (inl (cnf_faults.Count said found, fails, line))
+    at_status c t cnf trace BadInput status text e (inl (cnf_faults.Count said found, fault_of_cnf_in cnf (cnf_faults.Count said found) fails, line))
 cnf_fault_due c t cnf trace cnf_errors.NoMemory status text fails some e line = absurd (some refl)
 
 not_err : (T E : Type 0) (x : T) → IsErr {T = T} {E = E} (Ok x) → ⊥
@@ -54,21 +56,21 @@ bad_cnf_due {E} {N} (Ok x) status_of text_of c t cnf trace error fails ending me
 bad_cnf_due {E} {N} (Err n) status_of text_of c t cnf trace error fails ending memory = ending
 
 trace_fault_due : (c t cnf trace : List ℕ) (f : Formula) (error : TraceError) (status : Status) (text : List ℕ)
-    → CnfText cnf f → FailsTrace {Y = List Entry} error (trace_in trace) → error ≢ trace_errors.NoMemory → status ≡ BadInput → text ≡ trace_error_line t error
+    → cnf_in cnf ≡ Ok f → FailsTrace {Y = List Entry} error (trace_in trace) → error ≢ trace_errors.NoMemory → status ≡ BadInput → text ≡ trace_error_line t error
     → BytesDue c t cnf trace status text
 trace_fault_due c t cnf trace f trace_errors.TooLong status text reads fails some e line =
-    at_status c t cnf trace BadInput status text e (inr (trace_faults.TooLong, record { formula = f; reads_cnf = reads; faulty = fails }, line))
+    at_status c t cnf trace BadInput status text e (inr (trace_faults.TooLong, record { formula = f; reads_cnf = text_of_cnf_in cnf f reads; faulty = fails }, line))
 trace_fault_due c t cnf trace f (trace_errors.Syntax at) status text reads fails some e line =
-    at_status c t cnf trace BadInput status text e (inr (trace_faults.Syntax at, record { formula = f; reads_cnf = reads; faulty = fails }, line))
+    at_status c t cnf trace BadInput status text e (inr (trace_faults.Syntax at, record { formula = f; reads_cnf = text_of_cnf_in cnf f reads; faulty = fails }, line))
 trace_fault_due c t cnf trace f (trace_errors.Repeated index) status text reads fails some e line =
-    at_status c t cnf trace BadInput status text e (inr (trace_faults.Repeated index, record { formula = f; reads_cnf = reads; faulty = fails }, line))
+    at_status c t cnf trace BadInput status text e (inr (trace_faults.Repeated index, record { formula = f; reads_cnf = text_of_cnf_in cnf f reads; faulty = fails }, line))
 trace_fault_due c t cnf trace f (trace_errors.Unknown index antecedent) status text reads fails some e line =
-    at_status c t cnf trace BadInput status text e (inr (trace_faults.Unknown index antecedent, record { formula = f; reads_cnf = reads; faulty = fails }, line))
+    at_status c t cnf trace BadInput status text e (inr (trace_faults.Unknown index antecedent, record { formula = f; reads_cnf = text_of_cnf_in cnf f reads; faulty = fails }, line))
 trace_fault_due c t cnf trace f trace_errors.NoMemory status text reads fails some e line = absurd (some refl)
 
 -- the CNF reads, and the trace doesn't
 pub bad_trace_due : {E N : Type 0} (r : Result E N) (status_of : E → Status) (text_of : E → List ℕ) (c t cnf trace : List ℕ) (f : Formula) (error : TraceError)
-    → CnfText cnf f → FailsTrace {Y = List Entry} error (trace_in trace)
+    → cnf_in cnf ≡ Ok f → FailsTrace {Y = List Entry} error (trace_in trace)
     → IfOk r (λ e. (status_of e ≡ BadInput) × (text_of e ≡ trace_error_line t error))
     → (error ≡ trace_errors.NoMemory → IsErr r)
     → IfOk r (λ e. BytesDue c t cnf trace (status_of e) (text_of e))
@@ -78,20 +80,43 @@ bad_trace_due {E} {N} (Err n) status_of text_of c t cnf trace f error reads fail
 
 -- both read, and the trace refutes the clauses
 pub verified_due : {E N : Type 0} (r : Result E N) (status_of : E → Status) (text_of : E → List ℕ) (c t cnf trace : List ℕ) (f : Formula) (steps : List Entry)
-    → CnfText cnf f → TraceText trace steps → VerdictOf f.clauses steps Refutes → Unsat f.variables f.clauses
+    → cnf_in cnf ≡ Ok f → trace_in trace ≡ Ok steps → VerdictOf f.clauses steps Refutes → Unsat f.variables f.clauses
     → IfOk r (λ e. (status_of e ≡ Done) × (text_of e ≡ ended (codes "verified")))
     → IfOk r (λ e. BytesDue c t cnf trace (status_of e) (text_of e))
 verified_due (Ok x) status_of text_of c t cnf trace f steps reads_cnf reads_trace refutes unsat ending =
     at_status c t cnf trace Done (status_of x) (text_of x) ending.0
-    (record { formula = f; steps = steps; reads_cnf = reads_cnf; reads_trace = reads_trace; refutes = refutes; unsat = unsat }, ending.1)
+    (record { formula = f; steps = steps; reads_cnf = text_of_cnf_in cnf f reads_cnf; reads_trace = trace_in-text trace steps reads_trace; refutes = refutes; unsat = unsat }, ending.1)
 verified_due (Err n) status_of text_of c t cnf trace f steps reads_cnf reads_trace refutes unsat ending = ending
 
 -- both read, and the trace shows something else
 pub refused_due : {E N : Type 0} (r : Result E N) (status_of : E → Status) (text_of : E → List ℕ) (c t cnf trace : List ℕ) (f : Formula) (steps : List Entry) (v : Verdict)
-    → CnfText cnf f → TraceText trace steps → VerdictOf f.clauses steps v → v ≢ Refutes
+    → cnf_in cnf ≡ Ok f → trace_in trace ≡ Ok steps → VerdictOf f.clauses steps v → v ≢ Refutes
     → IfOk r (λ e. (status_of e ≡ NotAccepted) × (text_of e ≡ refused_line v))
     → IfOk r (λ e. BytesDue c t cnf trace (status_of e) (text_of e))
 refused_due (Ok x) status_of text_of c t cnf trace f steps v reads_cnf reads_trace shows other ending =
     at_status c t cnf trace NotAccepted (status_of x) (text_of x) ending.0
-    (v, other, record { formula = f; steps = steps; reads_cnf = reads_cnf; reads_trace = reads_trace; verdict = shows }, ending.1)
+    (v, other, record { formula = f; steps = steps; reads_cnf = text_of_cnf_in cnf f reads_cnf; reads_trace = trace_in-text trace steps reads_trace; verdict = shows }, ending.1)
 refused_due (Err n) status_of text_of c t cnf trace f steps v reads_cnf reads_trace shows other ending = ending
+
+-- the same, where the checker was lent a formula g that is f, and answered Refutes
+pub verified_from : {E N : Type 0} (r : Result E N) (status_of : E → Status) (text_of : E → List ℕ) (c t cnf trace : List ℕ) (f g : Formula) (steps : List Entry) (v : Verdict)
+    → g ≡ f → v ≡ Refutes → cnf_in cnf ≡ Ok f → trace_in trace ≡ Ok steps
+    → VerdictOf g.clauses steps v → (v ≡ Refutes → Unsat g.variables g.clauses)
+    → IfOk r (λ e. (status_of e ≡ Done) × (text_of e ≡ ended (codes "verified")))
+    → IfOk r (λ e. BytesDue c t cnf trace (status_of e) (text_of e))
+verified_from r status_of text_of c t cnf trace f g steps v same refutes reads_cnf reads_trace shows sound ending =
+    let P : Formula → Type 0 = λ x. VerdictOf x.clauses steps Refutes × Unsat x.variables x.clauses in
+    let both : P g = (subst (λ w. VerdictOf g.clauses steps w) refutes shows, sound refutes) in
+    let here : P f = subst P same both in
+    verified_due r status_of text_of c t cnf trace f steps reads_cnf reads_trace here.0 here.1 ending
+
+-- the same, where the checker answered another verdict w
+pub refused_from : {E N : Type 0} (r : Result E N) (status_of : E → Status) (text_of : E → List ℕ) (c t cnf trace : List ℕ) (f g : Formula) (steps : List Entry) (v w : Verdict)
+    → g ≡ f → w ≡ v → cnf_in cnf ≡ Ok f → trace_in trace ≡ Ok steps
+    → VerdictOf g.clauses steps w → v ≢ Refutes
+    → IfOk r (λ e. (status_of e ≡ NotAccepted) × (text_of e ≡ refused_line v))
+    → IfOk r (λ e. BytesDue c t cnf trace (status_of e) (text_of e))
+refused_from r status_of text_of c t cnf trace f g steps v w same verdict reads_cnf reads_trace shows other ending =
+    let P : Formula → Type 0 = λ x. VerdictOf x.clauses steps v in
+    let here : P f = subst P same (subst (λ u. VerdictOf g.clauses steps u) verdict shows) in
+    refused_due r status_of text_of c t cnf trace f steps v reads_cnf reads_trace here other ending

@@ -1,4 +1,3 @@
 pub mod EndingLemmas
 pub mod DueLemmas
-pub mod FormulaLemmas
 pub mod BytesLemmas

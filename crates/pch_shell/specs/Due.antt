@@ -5,7 +5,7 @@ use Rattle.clause_defs.specs.declared.verdict.Verdict.TheVariants as verdicts
 use Rattle.sat_text_defs.specs.declared.fault.TheConstants.{MAX_CNF_BYTES, MAX_TRACE_BYTES}
 use Rattle.sat_text_defs.specs.declared.fault.CnfFault.{CnfFault}
 use Rattle.sat_text_defs.specs.declared.fault.TraceFault.{TraceFault}
-use Rattle.pch_shell.specs.Texts.{CnfTextFault}
+use Rattle.cnf_laws.specs.CnfGrammar.{CnfTextFault}
 use Rattle.pch_io.specs.declared.store.LoadFail.{LoadFail}
 use Rattle.pch_io.specs.Outside.{Files, Loads, Rose}
 use Rattle.pch_shell.specs.Words.{Form, form_of, check}

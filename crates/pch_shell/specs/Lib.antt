@@ -3,7 +3,6 @@ pub mod Words
 pub mod Seen
 pub mod Lines
 pub mod Endings
-pub mod Texts
 pub mod Check
 pub mod ErrorLines
 pub mod Due

@@ -1,0 +1,11 @@
+pub mod StepLemmas
+pub mod WordLemmas
+pub mod BodyLemmas
+pub mod ClauseListLemmas
+pub mod HeaderLemmas
+pub mod EachLemmas
+pub mod AnswerLemmas
+pub mod ValueLemmas
+pub mod FaultLemmas
+pub mod FormulaLemmas
+pub mod TextLemmas

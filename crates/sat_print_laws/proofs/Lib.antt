@@ -1,3 +1,6 @@
 pub mod SpelledWords
 pub mod PrintedWords
 pub mod PrintedTrace
+pub mod PrintedLines
+pub mod PrintedHeader
+pub mod PrintedCnf

@@ -4,3 +4,4 @@ pub mod PrintedTrace
 pub mod PrintedLines
 pub mod PrintedHeader
 pub mod PrintedCnf
+pub mod ReadAgain

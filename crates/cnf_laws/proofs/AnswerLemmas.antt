@@ -6,7 +6,8 @@ use Rattle.clause_defs.specs.declared.verdict.TheConstants.{MAX_VARIABLE, MAX_CL
 use Rattle.text_defs.specs.Tokens.{Token}
 use Rattle.sat_text_defs.specs.declared.fault.CnfFault.TheVariants.{Syntax}
 use Rattle.sat_text_defs.specs.CnfReading.{header_in}
-use Rattle.cnf_laws.specs.CnfGrammar.{p_word, cnf_word, CanStand, IsRight, EachRight, FirstBad, IsWhole, BeginsBehind}
+use Rattle.cnf_laws.specs.CnfGrammar.{p_word, cnf_word, CanStand, IsRight, EachRight, FirstBad, IsWhole}
+use Rattle.cnf_laws.proofs.OrderLemmas.{BeginsBehind}
 use Rattle.cnf_laws.proofs.HeaderLemmas.{NumberStands, Headed, word_cases, number_cases, max_variable, max_clauses, stop0, bad1, bad2, bad3, short1, short2, short3, headed_alone, headed_not_alone}
 use Rattle.cnf_laws.proofs.EachLemmas.{each_nil, each1, each2, each3, each4}
 

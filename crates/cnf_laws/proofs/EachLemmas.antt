@@ -1,9 +1,10 @@
 -- Lists of tokens each of which is right behind those before it.
-use Rattle.std.proofs.Common.{◌≡◌, ℕ, ◌<◌, inl, inr, List, [], ◌∷◌, ◌++◌, refl, ap, subst, arith}
+use Rattle.std.proofs.Common.{◌≡◌, ℕ, ◌<◌, ◌≤◌, inl, inr, List, [], ◌∷◌, ◌++◌, refl, ap, subst, arith}
 use Rattle.std.proofs.lemmas.Bool.{cases_lt}
 use Rattle.clause_defs.specs.declared.verdict.TheConstants.{MAX_VARIABLE}
 use Rattle.text_defs.specs.Tokens.{Token}
-use Rattle.cnf_laws.specs.CnfGrammar.{IsNumberWord, IsClauseWord, CanStand, IsOutOfRange, IsRight, EachRight, BeginsBehind}
+use Rattle.cnf_laws.specs.CnfGrammar.{IsNumberWord, IsClauseWord, CanStand, IsOutOfRange, IsRight, EachRight}
+use Rattle.cnf_laws.proofs.OrderLemmas.{BeginsBehind, AllBehind}
 use Rattle.cnf_laws.proofs.WordLemmas.{one_number}
 use Rattle.cnf_laws.proofs.BodyLemmas.{RightWord, Outside, AllRight, clause_word, not_outside}
 use Rattle.cnf_laws.proofs.HeaderLemmas.{Headed, max_variable}
@@ -99,8 +100,7 @@ word_right v w (inr k) h = elim (cases_lt v k.0.variable) [ inl lt ↦ absurd (h
 
 right_word : (line : ℕ) (p c d n : Token) (v : ℕ) → IsNumberWord MAX_VARIABLE d.bytes v → (before : List Token) (t : Token)
     → IsRight line (p ∷ c ∷ d ∷ n ∷ before) t → RightWord v t.bytes
-right_word line p c d n v num [] t h = word_right v t.bytes h.0.1 (λ o. h.1 (v, num, o))
-right_word line p c d n v num (u ∷ us) t h = word_right v t.bytes h.0 (λ o. h.1 (v, num, o))
+right_word line p c d n v num before t h = word_right v t.bytes h.0.1 (λ o. h.1 (v, num, o))
 
 all_of : (P : List Token → Token → Type 0) (v : ℕ) → ((before : List Token) (t : Token) → P before t → RightWord v t.bytes) → (ts : List Token) → Each P ts → AllRight v ts
 all_of P v f [] h = tt
@@ -118,20 +118,15 @@ outside_of p c d n us t v num o =
     let lt : o.0 < o.2.0.variable = o.2.2 in
     (o.2.0, o.2.1, (let more : v < o.2.0.variable = omega arith in more))
 
-each_of_all : (P : List Token → Token → Type 0) (v : ℕ) → ((before : List Token) (t : Token) → RightWord v t.bytes → P before t) → (ts : List Token) → AllRight v ts → Each P ts
-each_of_all P v f [] h = each_nil P
-each_of_all P v f (t ∷ ts) h =
-    each_cons P t ts (f [] t h.0) (each_of_all (λ before. P (t ∷ before)) v (λ before u k. f (t ∷ before) u k) ts h.1)
+each_of_all : (P : List Token → Token → Type 0) (line v : ℕ) → ((before : List Token) (t : Token) → line ≤ t.at → RightWord v t.bytes → P before t) → (ts : List Token)
+    → AllBehind line ts → AllRight v ts → Each P ts
+each_of_all P line v f [] b h = each_nil P
+each_of_all P line v f (t ∷ ts) b h =
+    each_cons P t ts (f [] t b.0 h.0) (each_of_all (λ before. P (t ∷ before)) line v (λ before u i k. f (t ∷ before) u i k) ts b.1 h.1)
 
-each_behind : (line : ℕ) (p c d n : Token) (ts : List Token) (v : ℕ) → IsNumberWord MAX_VARIABLE d.bytes v → BeginsBehind line ts → AllRight v ts
-    → Each (λ us. IsRight line (p ∷ c ∷ d ∷ n ∷ us)) ts
-each_behind line p c d n [] v num b h = each_nil (λ us. IsRight line (p ∷ c ∷ d ∷ n ∷ us))
-each_behind line p c d n (t ∷ ts) v num b h =
-    each_cons (λ us. IsRight line (p ∷ c ∷ d ∷ n ∷ us)) t ts
-    ((b, clause_word v t.bytes h.0), λ o. not_outside v t.bytes h.0 (outside_of p c d n [] t v num o))
-    (each_of_all (λ us. IsRight line (p ∷ c ∷ d ∷ n ∷ t ∷ us)) v
-    (λ us u k. (clause_word v u.bytes k, λ o. not_outside v u.bytes k (outside_of p c d n (t ∷ us) u v num o))) ts h.1)
-
-pub each_of_parts : (line : ℕ) (p c d n : Token) (ts : List Token) (v k : ℕ) → Headed line p c d n v k → BeginsBehind line ts → AllRight v ts
+pub each_of_parts : (line : ℕ) (p c d n : Token) (ts : List Token) (v k : ℕ) → Headed line p c d n v k → AllBehind line ts → AllRight v ts
     → EachRight line (p ∷ c ∷ d ∷ n ∷ ts)
-each_of_parts line p c d n ts v k h b a = each4 line p c d n ts v k h (each_behind line p c d n ts v h.third.1 b a)
+each_of_parts line p c d n ts v k h b a =
+    each4 line p c d n ts v k h
+    (each_of_all (λ us. IsRight line (p ∷ c ∷ d ∷ n ∷ us)) line v
+    (λ us u i w. ((i, clause_word v u.bytes w), λ o. not_outside v u.bytes w (outside_of p c d n us u v h.third.1 o))) ts b a)

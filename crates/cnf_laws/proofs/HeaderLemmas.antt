@@ -8,7 +8,8 @@ use Rattle.sat_text_defs.specs.declared.fault.CnfFault.TheVariants.{Syntax}
 use Rattle.sat_text_defs.specs.Spellings.{number_in}
 use Rattle.sat_text_defs.specs.TraceReading.{◌>>=◌}
 use Rattle.sat_text_defs.specs.CnfReading.{same_word, behind_word, number_before, behind_line, header_in, Header}
-use Rattle.cnf_laws.specs.CnfGrammar.{p_word, cnf_word, IsNumberWord, CanStand, BeginsBehind}
+use Rattle.cnf_laws.specs.CnfGrammar.{p_word, cnf_word, IsNumberWord, CanStand}
+use Rattle.cnf_laws.proofs.OrderLemmas.{BeginsBehind}
 use Rattle.cnf_laws.proofs.WordLemmas.{same_word-itself, same_word-equal, number_in-word, word_number}
 
 -- ---- one token

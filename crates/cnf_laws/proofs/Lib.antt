@@ -2,6 +2,7 @@ pub mod StepLemmas
 pub mod WordLemmas
 pub mod BodyLemmas
 pub mod ClauseListLemmas
+pub mod OrderLemmas
 pub mod HeaderLemmas
 pub mod EachLemmas
 pub mod AnswerLemmas

@@ -15,6 +15,7 @@ use Rattle.sat_text_defs.specs.CnfReading.{clauses_from, counted, header_in, Hea
 use Rattle.cnf_laws.specs.CnfGrammar.{p_word, cnf_word, header_words, AreSpelled, header_end, SpellsFormula, CnfText}
 use Rattle.cnf_laws.proofs.StepLemmas.{bind_ok, guard_ok}
 use Rattle.cnf_laws.proofs.HeaderLemmas.{Headed, headed_alone}
+use Rattle.cnf_laws.proofs.OrderLemmas.{InOrder, tokens_in_order, all_behind, each_is_behind, begins_each}
 use Rattle.cnf_laws.proofs.AnswerLemmas.{Good, answer}
 use Rattle.cnf_laws.proofs.ClauseListLemmas.{spells_from, reads_clauses}
 
@@ -50,9 +51,9 @@ headed_words line p c d n v k m h e =
     let y : n.bytes ≡ decimal m = h.fourth.1.1 ∙ ap decimal (sym e) in
     cc
 
-spells_good : (end line : ℕ) (ts : List Token) (g : Good end line ts) (fs : List Lits) → clauses_from g.variables end g.body [] [] ≡ Ok fs
+spells_good : (end line : ℕ) (ts : List Token) → InOrder ts → (g : Good end line ts) (fs : List Lits) → clauses_from g.variables end g.body [] [] ≡ Ok fs
     → length fs ≡ g.clauses → SpellsFormula line ts (record { variables = g.variables; clauses = fs })
-spells_good end line ts g fs read count =
+spells_good end line ts o g fs read count =
     let s = spells_from g.variables end g.body [] [] fs (λ l none. absurd none) read in
     record {
       header = g.p ∷ g.c ∷ g.d ∷ g.n ∷ [];
@@ -60,7 +61,7 @@ spells_good end line ts g fs read count =
       parts = g.parts;
       words = headed_words line g.p g.c g.d g.n g.variables g.clauses (length fs) g.headed count;
       on_line = before_line line g.p g.c g.d g.n g.variables g.clauses g.headed;
-      alone = g.alone;
+      alone = each_is_behind line g.body (all_behind line g.body (subst (λ (x : List Token). InOrder x) g.parts o).1.1.1.1 g.alone);
       variables = g.headed.third.1.0;
       clauses = subst (λ (k : ℕ). k ≤ MAX_CLAUSES) (sym count) g.headed.fourth.1.0;
       spelled = s.spelled;
@@ -68,13 +69,13 @@ spells_good end line ts g fs read count =
       same_words = s.words;
     }
 
-pub spells_computed : (end line : ℕ) (ts : List Token) (f : Formula) → cnf_from end line ts ≡ Ok f → SpellsFormula line ts f
-spells_computed end line ts f e = elim (answer end line ts) [
+pub spells_computed : (end line : ℕ) (ts : List Token) (f : Formula) → InOrder ts → cnf_from end line ts ≡ Ok f → SpellsFormula line ts f
+spells_computed end line ts f o e = elim (answer end line ts) [
   | inl g ↦
       let reads = sym (cnf_from-good end line ts g.variables g.clauses g.body g.value) ∙ e in
       let b = bind_ok (clauses_from g.variables end g.body [] []) (λ fs. counted g.variables g.clauses fs) f reads in
       let c = guard_ok (length b.0 == g.clauses) (record { variables = g.variables; clauses = b.0 }) (Count g.clauses (length b.0)) f b.2 in
-      subst (λ (x : Formula). SpellsFormula line ts x) c.1 (spells_good end line ts g b.0 b.1 (eqb-true (length b.0) g.clauses c.0))
+      subst (λ (x : Formula). SpellsFormula line ts x) c.1 (spells_good end line ts o g b.0 b.1 (eqb-true (length b.0) g.clauses c.0))
   | inr stops ↦ elim stops [
     | inl bad ↦ absurd (let h = cnf_from-stops end line ts (Syntax bad.0.at) bad.2 in cc)
     | inr short ↦ absurd (let h = cnf_from-stops end line ts (Syntax end) short.2 in cc)
@@ -121,7 +122,7 @@ pub computed_spells : (end line : ℕ) (ts : List Token) (f : Formula) → Spell
 computed_spells end line ts f s =
     let four = four_tokens line s.header f.variables (length f.clauses) s.words s.on_line s.variables s.clauses in
     let same : ts ≡ four.p ∷ four.c ∷ four.d ∷ four.n ∷ s.body = s.parts ∙ ap (λ (hs : List Token). hs ++ s.body) four.same in
-    let header = headed_alone end line four.p four.c four.d four.n s.body f.variables (length f.clauses) four.headed s.alone in
+    let header = headed_alone end line four.p four.c four.d four.n s.body f.variables (length f.clauses) four.headed (begins_each line s.body s.alone) in
     ap (λ (us : List Token). cnf_from end line us) same
     ∙ cnf_from-good end line (four.p ∷ four.c ∷ four.d ∷ four.n ∷ s.body) f.variables (length f.clauses) s.body header
     ∙ ap {B = Result Formula CnfFault} (λ r. r >>= λ fs. counted f.variables (length f.clauses) fs)
@@ -149,7 +150,7 @@ text_of_cnf_in text f e = elim (cases_Bool (nat_lt MAX_CNF_BYTES (length text)))
   | inl long ↦ absurd (let h = cnf_in-long text (ltb-true MAX_CNF_BYTES (length text) long) in cc)
   | inr short ↦
       let le = ltb-false MAX_CNF_BYTES (length text) short in
-      (le, spells_computed (length text) (header_end text (tokens_of text)) (tokens_of text) f (sym (cnf_in-short text le) ∙ e))
+      (le, spells_computed (length text) (header_end text (tokens_of text)) (tokens_of text) f (tokens_in_order text) (sym (cnf_in-short text le) ∙ e))
 ]
 
 pub cnf_in_of_text : (text : List ℕ) (f : Formula) → CnfText text f → cnf_in text ≡ Ok f

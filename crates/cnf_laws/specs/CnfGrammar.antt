@@ -48,15 +48,10 @@ AreSpelled variables [] (c ∷ cs) = ⊥
 AreSpelled variables (ls ∷ spelled) [] = ⊥
 AreSpelled variables (ls ∷ spelled) (c ∷ cs) = IsSpelled variables ls c × AreSpelled variables spelled cs
 
--- the end of the line on which the first token stands
+-- the offset of the end of the line on which the first token stands, or of the text's end without one
 abbrev pub header_end : List ℕ → List Token → ℕ
 header_end text [] = length text
 header_end text (t ∷ ts) = line_end t.at (drop t.at text)
-
--- no token is left, or the next one stands behind the end of the line
-abbrev pub BeginsBehind : ℕ → List Token → Type 0
-BeginsBehind line [] = Unit {0}
-BeginsBehind line (t ∷ ts) = line ≤ t.at
 
 -- The tokens, where the line of the first one ends at `line`, are a header, alone on its line, and then the
 -- clauses of f, one after the other.
@@ -66,7 +61,7 @@ pub record SpellsFormula (line : ℕ) (ts : List Token) (f : Formula) : Type 0 w
   pub parts : ts ≡ header ++ body
   pub words : words_of header ≡ header_words f.variables (length f.clauses)
   pub on_line : (t : Token) → Has header t → t.at < line
-  pub alone : BeginsBehind line body
+  pub alone : (t : Token) → Has body t → line ≤ t.at
   pub variables : f.variables ≤ MAX_VARIABLE
   pub clauses : length f.clauses ≤ MAX_CLAUSES
   pub spelled : List Lits
@@ -98,17 +93,13 @@ CanStand line [] t = (t.at < line) × (t.bytes ≡ p_word)
 CanStand line (p ∷ []) t = (t.at < line) × (t.bytes ≡ cnf_word)
 CanStand line (p ∷ cnf ∷ []) t = (t.at < line) × ((n : ℕ) × IsNumberWord MAX_VARIABLE t.bytes n)
 CanStand line (p ∷ cnf ∷ v ∷ []) t = (t.at < line) × ((n : ℕ) × IsNumberWord MAX_CLAUSES t.bytes n)
-CanStand line (p ∷ cnf ∷ v ∷ c ∷ []) t = (line ≤ t.at) × IsClauseWord t.bytes
-CanStand line (p ∷ cnf ∷ v ∷ c ∷ u ∷ us) t = IsClauseWord t.bytes
+CanStand line (p ∷ cnf ∷ v ∷ c ∷ us) t = (line ≤ t.at) × IsClauseWord t.bytes
 
 -- the token is a literal whose variable is greater than the number of variables that the header says
 abbrev pub IsOutOfRange : List Token → Token → Type 0
-IsOutOfRange [] t = ⊥
-IsOutOfRange (p ∷ []) t = ⊥
-IsOutOfRange (p ∷ cnf ∷ []) t = ⊥
-IsOutOfRange (p ∷ cnf ∷ v ∷ []) t = ⊥
 IsOutOfRange (p ∷ cnf ∷ v ∷ c ∷ us) t =
     (n : ℕ) × IsNumberWord MAX_VARIABLE v.bytes n × ((l : Literal) × IsLiteralWord t.bytes l × (n < l.variable))
+IsOutOfRange before t = ⊥
 
 -- a token that is right behind these tokens
 abbrev pub IsRight : ℕ → List Token → Token → Type 0
@@ -137,11 +128,8 @@ pub record FirstOutOfRange (line : ℕ) (ts : List Token) (t : Token) : Type 0 w
 
 -- there are the four tokens of a header, and behind them none, or a last one that is 0
 abbrev pub IsWhole : List Token → Type 0
-IsWhole [] = ⊥
-IsWhole (p ∷ []) = ⊥
-IsWhole (p ∷ cnf ∷ []) = ⊥
-IsWhole (p ∷ cnf ∷ v ∷ []) = ⊥
 IsWhole (p ∷ cnf ∷ v ∷ c ∷ us) = ends_in_zero true (words_of us) ≡ true
+IsWhole ts = ⊥
 
 -- how many of the words are 0
 abbrev pub zeros : List (List ℕ) → ℕ
@@ -150,11 +138,8 @@ zeros (w ∷ ws) = if is_zero w then (1 + zeros ws) else zeros ws
 
 -- the header says `said` clauses, and there are `found`
 abbrev pub Counts : List Token → ℕ → ℕ → Type 0
-Counts [] said found = ⊥
-Counts (p ∷ []) said found = ⊥
-Counts (p ∷ cnf ∷ []) said found = ⊥
-Counts (p ∷ cnf ∷ v ∷ []) said found = ⊥
 Counts (p ∷ cnf ∷ v ∷ c ∷ us) said found = IsNumberWord MAX_CLAUSES c.bytes said × (found ≡ zeros (words_of us))
+Counts ts said found = ⊥
 
 -- the fault of a text that isn't too long
 abbrev pub FaultOf : ℕ → ℕ → List Token → CnfFault → Type 0

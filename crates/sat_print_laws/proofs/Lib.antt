@@ -1,3 +1,7 @@
 pub mod SpelledWords
 pub mod PrintedWords
 pub mod PrintedTrace
+pub mod PrintedLines
+pub mod PrintedHeader
+pub mod PrintedCnf
+pub mod ReadAgain

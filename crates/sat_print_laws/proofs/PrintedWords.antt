@@ -21,7 +21,8 @@ Passes-append f g h p q first then at rest =
 
 -- ---- words
 
-tokens-word : (at : ℕ) (w rest : List ℕ) → IsWord w → begins_with_token separates rest ≡ false
+-- a word in front of a separator or of the text's end is a token
+pub tokens-word : (at : ℕ) (w rest : List ℕ) → IsWord w → begins_with_token separates rest ≡ false
     → tokens separates at (w ++ rest) ≡ record { at = at; bytes = w } ∷ tokens separates (at + length w) rest
 tokens-word at [] rest word ends = absurd (word.nonempty refl)
 tokens-word at (b ∷ bs) rest word ends = tokens-run separates at b bs rest word.bytes ends

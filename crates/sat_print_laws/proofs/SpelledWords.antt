@@ -1,5 +1,5 @@
 -- A number or a literal is computed back from the word that spells it.
-use Rattle.std.proofs.Common.{◌≡◌, ℕ, ◌+◌, ◌-◌, ◌*◌, ◌<◌, ◌≤◌, ◌^◌, ◌&&◌, ◌==◌, Bool, true, false, List, [], ◌∷◌, Some, None, option_map, nat_le, refl, sym, ap, subst, ◌∙◌, inl, inr, decimal, arith}
+use Rattle.std.proofs.Common.{◌≡◌, ℕ, ◌+◌, ◌-◌, ◌*◌, ◌<◌, ◌≤◌, ◌^◌, ◌&&◌, ◌==◌, Bool, true, false, List, length, [], ◌∷◌, Some, None, option_map, nat_le, refl, sym, ap, subst, ◌∙◌, inl, inr, decimal, arith}
 use Rattle.std.proofs.lemmas.Bool.{and_parts, and_from, leb-true, lt-ltb, le-leb, ne_eqb, eq-eqb, cases_eq}
 use Rattle.std.proofs.lemmas.Fmt.{decimal_digit}
 use Rattle.clause_defs.specs.declared.verdict.TheConstants.{MAX_VARIABLE, MAX_INDEX}
@@ -129,25 +129,39 @@ is_zero-literal l h = nonzero_by_sign l.positive l.variable h.0 h.1
 
 -- ---- their bytes
 
--- a byte at least, and no separators
+abbrev pub first_byte : List ℕ → ℕ
+first_byte [] = 0
+first_byte (b ∷ bs) = b
+
+-- a digit or `-` first, and no separators
 pub record IsWord (w : List ℕ) : Type 0 where
   pub nonempty : (w ≡ []) → ⊥
+  pub first : first_byte w ≤ 57
   pub bytes : NoneSeparates separates w
+
+first_low : (v b n : ℕ) (bs : List ℕ) → number_from v (b ∷ bs) ≡ Some n → b ≤ 57
+first_low v b n bs h = (digit_bounds b (digit_first v b n bs (is_digit b) refl h).0).1
 
 IsWord-number : (n : ℕ) (w : List ℕ) → number_spelled w ≡ Some n → IsWord w
 IsWord-number n [] h = absurd (cc)
-IsWord-number n (b ∷ []) h = record { nonempty = λ e. absurd (cc); bytes = NoneSeparates-digits 0 n (b ∷ []) h }
-IsWord-number n (b ∷ c ∷ bs) h = record { nonempty = λ e. absurd (cc); bytes = NoneSeparates-digits 0 n (b ∷ c ∷ bs) (longer b c n bs (b == 48) refl h).1 }
+IsWord-number n (b ∷ []) h = record { nonempty = λ e. absurd (cc); first = first_low 0 b n [] h; bytes = NoneSeparates-digits 0 n (b ∷ []) h }
+IsWord-number n (b ∷ c ∷ bs) h =
+    let goes_on = (longer b c n bs (b == 48) refl h).1 in
+    record { nonempty = λ e. absurd (cc); first = first_low 0 b n (c ∷ bs) goes_on; bytes = NoneSeparates-digits 0 n (b ∷ c ∷ bs) goes_on }
 
 pub IsWord-decimal : (n : ℕ) → n < 2 ^ 64 → IsWord (decimal n)
 IsWord-decimal n small = IsWord-number n (decimal n) (number_in-spelled (decimal n) n small refl)
 
 word_by_sign : (s : Bool) (v : ℕ) → v ≤ MAX_VARIABLE → IsWord (literal_word (literal s v))
 word_by_sign true v high = IsWord-decimal v (omega arith)
-word_by_sign false v high = record { nonempty = λ e. absurd (cc); bytes = (refl, (IsWord-decimal v (omega arith)).bytes) }
+word_by_sign false v high = record { nonempty = λ e. absurd (cc); first = omega arith; bytes = (refl, (IsWord-decimal v (omega arith)).bytes) }
 
 pub IsWord-literal : (l : Literal) → IsLiteral l → IsWord (literal_word l)
 IsWord-literal l h = word_by_sign l.positive l.variable h.1
 
 pub IsWord-zero : IsWord (48 ∷ [])
-IsWord-zero = record { nonempty = λ e. absurd (cc); bytes = (refl, tt) }
+IsWord-zero = record { nonempty = λ e. absurd (cc); first = omega arith; bytes = (refl, tt) }
+
+pub length-word : (w : List ℕ) → IsWord w → 0 < length w
+length-word [] word = absurd (word.nonempty refl)
+length-word (b ∷ bs) word = omega arith

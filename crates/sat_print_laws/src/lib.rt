@@ -6,4 +6,4 @@
 
 mod laws;
 
-pub use laws::printed_trace_is_read_again;
+pub use laws::{printed_cnf_is_read_again, printed_trace_is_read_again};

@@ -4,3 +4,6 @@ pub mod Places
 pub mod TraceSteps
 pub mod TraceReads
 pub mod TraceWritten
+pub mod FaultPlaces
+pub mod OpenClause
+pub mod TraceFaults

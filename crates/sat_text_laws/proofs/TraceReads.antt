@@ -35,11 +35,11 @@ append_antecedent : (front : List (List ℕ)) (xs : List ℕ) (x : ℕ) (ws : Li
 append_antecedent [] xs x ws w e = ap (λ (vs : List (List ℕ)). zero_word ∷ vs) (append_spelled decimal xs x ws w e)
 append_antecedent (a ∷ front) xs x ws w e = ap (λ (vs : List (List ℕ)). a ∷ vs) (append_antecedent front xs x ws w e)
 
-append_end : (front bs ws : List (List ℕ)) (w z : List ℕ) → w ≡ z → (front ++ bs) ++ (w ∷ ws) ≡ (front ++ (bs ++ (z ∷ []))) ++ ws
+pub append_end : (front bs ws : List (List ℕ)) (w z : List ℕ) → w ≡ z → (front ++ bs) ++ (w ∷ ws) ≡ (front ++ (bs ++ (z ∷ []))) ++ ws
 append_end [] bs ws w z e = append_word bs ws w z e
 append_end (a ∷ front) bs ws w z e = ap (λ (vs : List (List ℕ)). a ∷ vs) (append_end front bs ws w z e)
 
-append_assoc_words : (front bs cs : List (List ℕ)) → (front ++ bs) ++ cs ≡ front ++ (bs ++ cs)
+pub append_assoc_words : (front bs cs : List (List ℕ)) → (front ++ bs) ++ cs ≡ front ++ (bs ++ cs)
 append_assoc_words [] bs cs = refl
 append_assoc_words (a ∷ front) bs cs = ap (λ (vs : List (List ℕ)). a ∷ vs) (append_assoc_words front bs cs)
 
@@ -61,11 +61,14 @@ open_words (among_antecedents i ls xs) = (decimal i ∷ map literal_word ls) ++ 
 abbrev pub AreLiterals : Lits → Type 0
 AreLiterals ls = (l : Literal) → Has ls l → IsLiteral l
 
--- the index and the literals of an open clause are within the limits
+abbrev pub AreIndices : List ℕ → Type 0
+AreIndices xs = (x : ℕ) → Has xs x → (1 ≤ x) × (x ≤ MAX_INDEX)
+
+-- the numbers of an open clause are within the limits
 abbrev pub IsPart : Part → Type 0
 IsPart start = Unit {0}
 IsPart (among_lits i ls) = (1 ≤ i) × (i ≤ MAX_INDEX) × AreLiterals ls
-IsPart (among_antecedents i ls xs) = (1 ≤ i) × (i ≤ MAX_INDEX) × AreLiterals ls
+IsPart (among_antecedents i ls xs) = (1 ≤ i) × (i ≤ MAX_INDEX) × AreLiterals ls × AreIndices xs
 
 -- the words ws are those of the clauses of t, those of the open clause, and those of the tokens that are left
 pub record IsRead (ws : List (List ℕ)) (ts : List Token) (t : List Entry) (p : Part) : Type 0 where
@@ -107,14 +110,19 @@ read_literal ws w ts t i ls l h e =
 pub read_first_zero : (ws : List (List ℕ)) (w : Token) (ts : List Token) (t : List Entry) (i : ℕ) (ls : Lits)
     → IsRead ws (w ∷ ts) t (among_lits i ls) → is_zero w.bytes ≡ true → IsRead ws ts t (among_antecedents i ls [])
 read_first_zero ws w ts t i ls h e =
-    read_on ws (w ∷ ts) ts t (among_lits i ls) (among_antecedents i ls []) h h.part
+    read_on ws (w ∷ ts) ts t (among_lits i ls) (among_antecedents i ls []) h (h.part.0, h.part.1, h.part.2, λ x none. absurd none)
     (append_word (decimal i ∷ map literal_word ls) (words_of ts) w.bytes zero_word (is_zero-word w.bytes e))
+
+indices-snoc : (xs : List ℕ) (x : ℕ) → AreIndices xs → (1 ≤ x) × (x ≤ MAX_INDEX) → AreIndices (xs ++ x ∷ [])
+indices-snoc xs x h k y i = elim (Has-snoc xs x y i) [ inl j ↦ h y j | inr e ↦ subst (λ (n : ℕ). (1 ≤ n) × (n ≤ MAX_INDEX)) e k ]
 
 pub read_antecedent : (ws : List (List ℕ)) (w : Token) (ts : List Token) (t : List Entry) (i : ℕ) (ls : Lits) (xs : List ℕ) (x : ℕ)
     → IsRead ws (w ∷ ts) t (among_antecedents i ls xs) → index_in w.bytes ≡ Some x → IsRead ws ts t (among_antecedents i ls (xs ++ x ∷ []))
 read_antecedent ws w ts t i ls xs x h e =
-    read_on ws (w ∷ ts) ts t (among_antecedents i ls xs) (among_antecedents i ls (xs ++ x ∷ [])) h h.part
-    (append_antecedent (decimal i ∷ map literal_word ls) xs x (words_of ts) w.bytes (index_in-word w.bytes x e).0)
+    let word = index_in-word w.bytes x e in
+    read_on ws (w ∷ ts) ts t (among_antecedents i ls xs) (among_antecedents i ls (xs ++ x ∷ [])) h
+    (h.part.0, h.part.1, h.part.2, indices-snoc xs x h.part.3 (word.1, word.2))
+    (append_antecedent (decimal i ∷ map literal_word ls) xs x (words_of ts) w.bytes word.0)
 
 -- ---- the end of a clause
 
@@ -158,7 +166,7 @@ read_second_zero ws w ts t u i ls xs h zero e =
 
 -- ---- all tokens
 
-append_nothing : (vs : List (List ℕ)) → vs ++ [] ≡ vs
+pub append_nothing : (vs : List (List ℕ)) → vs ++ [] ≡ vs
 append_nothing [] = refl
 append_nothing (v ∷ vs) = ap (λ (us : List (List ℕ)). v ∷ us) (append_nothing vs)
 

@@ -5,5 +5,6 @@
 mod laws;
 
 pub use laws::{
-    computed_traces_are_written, positive_words_are_spelled, written_traces_are_computed,
+    computed_faults_are_the_texts, computed_traces_are_written, positive_words_are_spelled,
+    written_traces_are_computed,
 };

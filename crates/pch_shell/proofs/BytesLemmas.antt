@@ -1,5 +1,5 @@
 -- What is due for the bytes of both files, from what the readers and the checker answer.
-use Rattle.std.proofs.Common.{◌≡◌, ◌≢◌, ℕ, inl, inr, List, Result, Ok, Err, IfOk, IsErr, refl, sym, subst, codes}
+use Rattle.std.proofs.Common.{◌≡◌, ◌≢◌, ℕ, inl, inr, List, Result, Ok, Err, IfOk, IsErr, refl, sym, subst, ◌∙◌, codes}
 use Rattle.clause_defs.specs.Clauses.{Lits, Unsat}
 use Rattle.clause_defs.specs.Traces.{Entry}
 use Rattle.clause_defs.specs.Verdicts.{VerdictOf}
@@ -16,6 +16,7 @@ use Rattle.sat_text.specs.declared.errors.CnfError.TheVariants as cnf_errors
 use Rattle.sat_text.specs.declared.errors.TraceError.{TraceError}
 use Rattle.sat_text.specs.declared.errors.TraceError.TheVariants as trace_errors
 use Rattle.sat_text_laws.proofs.TraceReads.{trace_in-text}
+use Rattle.sat_text_laws.proofs.TraceFaults.{trace_in-fault}
 use Rattle.cnf_laws.proofs.ValueLemmas.{text_of_cnf_in}
 use Rattle.cnf_laws.proofs.FaultLemmas.{fault_of_cnf_in}
 use Rattle.pch_shell.specs.Lines.{ended}
@@ -59,13 +60,13 @@ trace_fault_due : (c t cnf trace : List ℕ) (f : Formula) (error : TraceError) 
     → cnf_in cnf ≡ Ok f → FailsTrace {Y = List Entry} error (trace_in trace) → error ≢ trace_errors.NoMemory → status ≡ BadInput → text ≡ trace_error_line t error
     → BytesDue c t cnf trace status text
 trace_fault_due c t cnf trace f trace_errors.TooLong status text reads fails some e line =
-    at_status c t cnf trace BadInput status text e (inr (trace_faults.TooLong, record { formula = f; reads_cnf = text_of_cnf_in cnf f reads; faulty = fails }, line))
+    at_status c t cnf trace BadInput status text e (inr (trace_faults.TooLong, record { formula = f; reads_cnf = text_of_cnf_in cnf f reads; faulty = trace_in-fault trace trace_faults.TooLong fails }, line))
 trace_fault_due c t cnf trace f (trace_errors.Syntax at) status text reads fails some e line =
-    at_status c t cnf trace BadInput status text e (inr (trace_faults.Syntax at, record { formula = f; reads_cnf = text_of_cnf_in cnf f reads; faulty = fails }, line))
+    at_status c t cnf trace BadInput status text e (inr (trace_faults.Syntax at, record { formula = f; reads_cnf = text_of_cnf_in cnf f reads; faulty = trace_in-fault trace (trace_faults.Syntax at) fails }, line))
 trace_fault_due c t cnf trace f (trace_errors.Repeated index) status text reads fails some e line =
-    at_status c t cnf trace BadInput status text e (inr (trace_faults.Repeated index, record { formula = f; reads_cnf = text_of_cnf_in cnf f reads; faulty = fails }, line))
+    at_status c t cnf trace BadInput status text e (inr (trace_faults.Repeated index, record { formula = f; reads_cnf = text_of_cnf_in cnf f reads; faulty = trace_in-fault trace (trace_faults.Repeated index) fails }, line))
 trace_fault_due c t cnf trace f (trace_errors.Unknown index antecedent) status text reads fails some e line =
-    at_status c t cnf trace BadInput status text e (inr (trace_faults.Unknown index antecedent, record { formula = f; reads_cnf = text_of_cnf_in cnf f reads; faulty = fails }, line))
+    at_status c t cnf trace BadInput status text e (inr (trace_faults.Unknown index antecedent, record { formula = f; reads_cnf = text_of_cnf_in cnf f reads; faulty = trace_in-fault trace (trace_faults.Unknown index antecedent) fails }, line))
 trace_fault_due c t cnf trace f trace_errors.NoMemory status text reads fails some e line = absurd (some refl)
 
 -- the CNF reads, and the trace doesn't
@@ -113,10 +114,10 @@ verified_from r status_of text_of c t cnf trace f g steps v same refutes reads_c
 -- the same, where the checker answered another verdict w
 pub refused_from : {E N : Type 0} (r : Result E N) (status_of : E → Status) (text_of : E → List ℕ) (c t cnf trace : List ℕ) (f g : Formula) (steps : List Entry) (v w : Verdict)
     → g ≡ f → w ≡ v → cnf_in cnf ≡ Ok f → trace_in trace ≡ Ok steps
-    → VerdictOf g.clauses steps w → v ≢ Refutes
+    → VerdictOf g.clauses steps w → (w ≡ Refutes → ⊥)
     → IfOk r (λ e. (status_of e ≡ NotAccepted) × (text_of e ≡ refused_line v))
     → IfOk r (λ e. BytesDue c t cnf trace (status_of e) (text_of e))
 refused_from r status_of text_of c t cnf trace f g steps v w same verdict reads_cnf reads_trace shows other ending =
     let P : Formula → Type 0 = λ x. VerdictOf x.clauses steps v in
     let here : P f = subst P same (subst (λ u. VerdictOf g.clauses steps u) verdict shows) in
-    refused_due r status_of text_of c t cnf trace f steps v reads_cnf reads_trace here other ending
+    refused_due r status_of text_of c t cnf trace f steps v reads_cnf reads_trace here (λ e. other (verdict ∙ e)) ending

@@ -1,5 +1,5 @@
 -- What `check CNF TRACE` finds, the line that says it, and why it can't be found.
-use Rattle.std.specs.Prelude.{◌≡◌, ℕ, List, [], Option, Err, codes}
+use Rattle.std.specs.Prelude.{ℕ, List, [], Option, codes}
 use Rattle.clause_defs.specs.Clauses.{Unsat}
 use Rattle.clause_defs.specs.Traces.{Entry}
 use Rattle.clause_defs.specs.Verdicts.{VerdictOf}
@@ -12,8 +12,7 @@ use Rattle.sat_text_defs.specs.declared.fault.CnfFault.TheVariants as cnf_faults
 use Rattle.sat_text_defs.specs.declared.fault.TraceFault.{TraceFault}
 use Rattle.sat_text_defs.specs.declared.fault.TraceFault.TheVariants as trace_faults
 use Rattle.sat_text_defs.specs.CnfText.{Formula}
-use Rattle.sat_text_defs.specs.TraceText.{TraceText}
-use Rattle.sat_text_defs.specs.TraceReading.{trace_in}
+use Rattle.sat_text_defs.specs.TraceText.{TraceText, TraceTextFault}
 use Rattle.cnf_laws.specs.CnfGrammar.{CnfText}
 use Rattle.pch_io.specs.Outside.{Files, Loads}
 use Rattle.pch_shell.specs.Lines.{and_word, and_number, ended}
@@ -35,11 +34,11 @@ pub record Refuted (cnf trace : List ℕ) : Type 0 where
   pub refutes : VerdictOf formula.clauses steps Refutes
   pub unsat : Unsat formula.variables formula.clauses
 
--- the trace is looked at only where the CNF reads; its tokens give the fault, from left to right
+-- the trace is looked at only where the CNF reads
 pub record TraceIsFaulty (cnf trace : List ℕ) (fault : TraceFault) : Type 0 where
   pub formula : Formula
   pub reads_cnf : CnfText cnf formula
-  pub faulty : trace_in trace ≡ Err fault
+  pub faulty : TraceTextFault trace fault
 
 -- both files were loaded
 pub record Loaded (told : Option Files) (cnf_name trace_name : List ℕ) : Type 0 where

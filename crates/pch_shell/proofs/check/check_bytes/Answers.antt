@@ -1,3 +1,4 @@
+use Rattle.std.proofs.Common.{refl}
 use Rattle.sat_text.specs.Values.{formula_of}
 use Rattle.pch_shell.proofs.BytesLemmas.{bad_cnf_due, bad_trace_due, verified_from, refused_from}
 use Rattle.cnf_laws.proofs.FormulaLemmas.{formula_within}
@@ -25,13 +26,13 @@ from_clauses-requires-clause-within c =
 pub returns-in-Refutes : goal.returns-in-Refutes
 returns-in-Refutes c =
     verified_from c.verified.result (λ e. e.status) (λ e. e.text.items) _ _ _ _ (formula_of c.in-Ok.formula) c.in_ok-originals.originals
-        c.in-Ok-read_trace.steps c.in_ok-verdict.verdict c.in_ok-originals.ensures c.in-Refutes.is
-        (rw c.deref.ensures.value at c.in-Ok.ensures.exact) (rw c.deref-2.ensures.value at c.in-Ok-read_trace.ensures.exact)
-        c.in_ok-verdict.ensures.verdict c.in_ok-verdict.ensures.sound c.verified.ensures
+    c.in-Ok-read_trace.steps c.in_ok-verdict.verdict c.in_ok-originals.ensures c.in-Refutes.is
+    (rw c.deref.ensures.value at c.in-Ok.ensures.exact) (rw c.deref-2.ensures.value at c.in-Ok-read_trace.ensures.exact)
+    c.in_ok-verdict.ensures.verdict c.in_ok-verdict.ensures.sound c.verified.ensures
 
 pub returns : goal.returns
 returns c =
     refused_from c.refusal.result (λ e. e.status) (λ e. e.text.items) _ _ _ _ (formula_of c.in-Ok.formula) c.in_ok-originals.originals
-        c.in-Ok-read_trace.steps c.in_default.verdict c.in_ok-verdict.verdict c.in_ok-originals.ensures (cc)
-        (rw c.deref.ensures.value at c.in-Ok.ensures.exact) (rw c.deref-2.ensures.value at c.in-Ok-read_trace.ensures.exact)
-        c.in_ok-verdict.ensures.verdict c.in_default.not-Refutes c.refusal.ensures
+    c.in-Ok-read_trace.steps c.in_ok-verdict.verdict c.in_ok-verdict.verdict c.in_ok-originals.ensures refl
+    (rw c.deref.ensures.value at c.in-Ok.ensures.exact) (rw c.deref-2.ensures.value at c.in-Ok-read_trace.ensures.exact)
+    c.in_ok-verdict.ensures.verdict c.in_default.not-Refutes c.refusal.ensures

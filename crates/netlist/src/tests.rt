@@ -111,8 +111,14 @@ fn constants_and_inputs_are_outputs(rt: HostRuntime) -> Result<(), Fail> {
 fn faults_are_the_first(rt: HostRuntime) -> Result<(), Fail> {
     let alloc = rt.alloc();
     let cases: [(&[u8], NetError); 4] = [
-        (b".outputs y\n.names z y\n1 1\n.names y z\n1 1\n", NetError::Cycle { node: 0 }),
-        (b".outputs y\n.names q y\n1 1\n", NetError::UndrivenPin { node: 0, pin: 0 }),
+        (
+            b".outputs y\n.names z y\n1 1\n.names y z\n1 1\n",
+            NetError::Cycle { node: 0 },
+        ),
+        (
+            b".outputs y\n.names q y\n1 1\n",
+            NetError::UndrivenPin { node: 0, pin: 0 },
+        ),
         (b".outputs y\n", NetError::UndrivenOutput { place: 0 }),
         (
             b".inputs a\n.outputs u\n.names u\n1\n.names a v w\n11 1\n.names w v\n1 1\n.end\n",

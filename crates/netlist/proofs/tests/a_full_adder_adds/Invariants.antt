@@ -3,4 +3,4 @@ use Rattle.net_defs.specs.Networks.{signals}
 use Rattle.netlist.proofs.tests.a_full_adder_adds.Given as goal
 
 abbrev pub invariant-loop-word : goal.invariant-loop-word
-invariant-loop-word l = signals l.net ≤ length l.s
+invariant-loop-word g l = signals l.net-inside.parts ≤ length l.s

@@ -1,10 +1,10 @@
 -- A walk through one bucket, and one more index.
-use Rattle.std.proofs.Common.{◌≡◌, ℕ, zero, suc, ◌+◌, ◌-◌, ◌<◌, ◌≤◌, inl, inr, List, [], ◌∷◌, ◌++◌, length, get_or, Option, Some, None, option_map, refl, sym, ap, ◌∙◌, subst, arith, length-append}
+use Rattle.std.proofs.Common.{◌≡◌, ℕ, suc, ◌+◌, ◌-◌, ◌<◌, ◌≤◌, inl, inr, List, [], ◌∷◌, ◌++◌, length, get_or, Option, Some, None, option_map, refl, sym, ap, ◌∙◌, subst, arith, length-append}
 use Rattle.std.proofs.lemmas.Bool.{cases_lt, cases_eq, ne_eqb}
 use Rattle.std.proofs.lemmas.List.{get_or_append_left}
 use Rattle.std.proofs.Math.Seq.{get_or-append_seam}
 use Rattle.sat_text_defs.specs.TraceReading.{place_of, place_from}
-use Rattle.trace_places.specs.Buckets.{bucket_of, IsLatest, IsIndex, AreLinked, AreBuckets, spot}
+use Rattle.trace_places.specs.Buckets.{bucket_of, IsLatest, IsIndex, AreLinked, spot}
 use Rattle.trace_places.proofs.PlaceLemmas.{place_of-push_same, place_of-push_other, place_of-below}
 
 -- ---- a walk

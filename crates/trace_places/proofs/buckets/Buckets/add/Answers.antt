@@ -1,4 +1,4 @@
-use Rattle.std.proofs.Common.{◌≡◌, ℕ, ◌+◌, ◌<◌, List, [], ◌∷◌, ◌++◌, length, Option, None, sym, ap, ◌∙◌, subst, arith, length-append}
+use Rattle.std.proofs.Common.{◌≡◌, ℕ, ◌+◌, ◌<◌, List, [], ◌∷◌, ◌++◌, length, None, sym, ap, ◌∙◌, subst, arith, length-append}
 use Rattle.sat_text_defs.specs.TraceReading.{place_of}
 use Rattle.trace_places.specs.Buckets.{IsIndex, AreLinked}
 use Rattle.trace_places.proofs.BucketLemmas.{IsIndex-longer, AreLinked-push}

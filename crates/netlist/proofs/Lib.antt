@@ -8,3 +8,4 @@ pub mod ZipLemmas
 pub mod BuildLemmas
 pub mod NetworkLemmas
 pub mod RowLemmas
+pub mod CoverLemmas

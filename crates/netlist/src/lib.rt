@@ -19,3 +19,6 @@ pub use from_blif::build;
 pub use net::Net;
 pub use net_defs::NetError;
 pub use scratch::Scratch;
+
+#[cfg(test)]
+mod tests;

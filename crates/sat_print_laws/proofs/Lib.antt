@@ -1,4 +1,4 @@
-pub mod SpelledWords
+pub mod WordBytes
 pub mod PrintedWords
 pub mod PrintedTrace
 pub mod PrintedLines

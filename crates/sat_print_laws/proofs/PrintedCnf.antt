@@ -14,7 +14,8 @@ use Rattle.sat_text_defs.specs.CnfText.{Formula, first, later, uncommented, toke
 use Rattle.sat_text_defs.specs.CnfReading.{Header, header_in, clauses_from, counted, cnf_from, header_line, cnf_in}
 use Rattle.sat_values.specs.ClauseLists.{AreClausesOver}
 use Rattle.sat_text.specs.Printed.{line_of, cnf_text}
-use Rattle.sat_print_laws.proofs.SpelledWords.{IsWord-decimal, length-word, number_in-decimal}
+use Rattle.cnf_laws.proofs.WordLemmas.{word_number}
+use Rattle.sat_print_laws.proofs.WordBytes.{IsWord-decimal, length-word}
 use Rattle.sat_print_laws.proofs.PrintedLines.{Keeps, Keeps-append, Keeps-later, lines_keep, clauses_from-lines}
 use Rattle.sat_print_laws.proofs.PrintedHeader.{header_end, header_tokens, tokens-header, line_end-header, header_in-header}
 
@@ -69,5 +70,5 @@ cnf_in-text f over short =
     cnf_in-tokens (cnf_text f) (header_end v c) (header_tokens v c behind) short are (line_end-header v c lines v_word c_word)
     ∙ cnf_from-header (length (cnf_text f)) (header_end v c) (header_tokens v c behind) (record { variables = f.variables; clauses = length f.clauses; rest = behind }) f
     (header_in-header (length (cnf_text f)) f.variables (length f.clauses) v c lines (length-word c c_word)
-    (number_in-decimal MAX_VARIABLE f.variables (omega arith) few) (number_in-decimal MAX_CLAUSES (length f.clauses) (omega arith) few_clauses))
+    (word_number MAX_VARIABLE f.variables v (omega arith) (few, refl)) (word_number MAX_CLAUSES (length f.clauses) c (omega arith) (few_clauses, refl)))
     (clauses_behind (length (cnf_text f)) (header_end v c + 1) f over)

@@ -8,7 +8,7 @@ use Rattle.sat_text_defs.specs.Words.{separates}
 use Rattle.sat_text_defs.specs.Spellings.{number_in}
 use Rattle.sat_text_defs.specs.CnfText.{line_end}
 use Rattle.sat_text_defs.specs.CnfReading.{behind_line, header_in}
-use Rattle.sat_print_laws.proofs.SpelledWords.{IsWord}
+use Rattle.sat_print_laws.proofs.WordBytes.{IsWord}
 use Rattle.sat_print_laws.proofs.PrintedWords.{tokens-word, tokens-blank}
 
 -- ---- tokens behind a line

@@ -15,7 +15,8 @@ use Rattle.sat_text_defs.specs.CnfText.{Place, first, later, uncommented}
 use Rattle.sat_text_defs.specs.CnfReading.{clauses_from}
 use Rattle.sat_text_defs.proofs.ClauseOf.{clause_of-ordered}
 use Rattle.sat_text.specs.Printed.{literal_text, line_of}
-use Rattle.sat_print_laws.proofs.SpelledWords.{IsWord, IsWord-literal, IsWord-zero, literal_in-word, is_zero-literal}
+use Rattle.sat_text_laws.proofs.TraceWords.{word_literal, literal_nonzero}
+use Rattle.sat_print_laws.proofs.WordBytes.{IsWord, IsWord-literal, IsWord-zero}
 use Rattle.sat_print_laws.proofs.PrintedWords.{Reads, Passes, Passes-append, Passes-blank, Passes-line_feed, by_tokens}
 
 -- ---- the clauses
@@ -28,7 +29,7 @@ literal_passes : (variables end : ℕ) (fs : List Lits) (ls : Lits) (l : Literal
     → Passes (from_here variables end fs ls) (from_here variables end fs (ls ++ l ∷ [])) (literal_text l)
 literal_passes variables end fs ls l h within =
     Passes-blank (λ ts. clauses_from variables end ts fs ls) (λ ts. clauses_from variables end ts fs (ls ++ l ∷ [])) (literal_word l) (IsWord-literal l h)
-    (λ at ts. rw (is_zero-literal l h, literal_in-word l h, le-leb l.variable variables within) refl)
+    (λ at ts. rw (literal_nonzero (literal_word l) l h refl, word_literal (literal_word l) l h refl, le-leb l.variable variables within) refl)
 
 lits_pass : (variables end : ℕ) (fs : List Lits) (ls cs all : Lits) → ((l : Literal) → Has cs l → IsLiteral l) → WithinVariables variables cs → ls ++ cs ≡ all
     → Passes (from_here variables end fs ls) (from_here variables end fs all) (flat_map literal_text cs)

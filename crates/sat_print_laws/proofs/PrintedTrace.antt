@@ -2,7 +2,7 @@
 use Rattle.std.proofs.Common.{◌≡◌, ◌≢◌, ℕ, zero, suc, ◌+◌, ◌<◌, ◌≤◌, nat_lt, false, List, [], ◌∷◌, ◌++◌, length, map, slice_get, Some, None, Result, Ok, decimal, refl, sym, ap, subst, ◌∙◌, append_assoc, inl, inr, arith, length-append}
 use Rattle.std.specs.List.{flat_map}
 use Rattle.std.proofs.lemmas.List.{append-nil}
-use Rattle.std.proofs.lemmas.Bool.{le-ltb, eq-eqb, ne_eqb}
+use Rattle.std.proofs.lemmas.Bool.{le-ltb}
 use Rattle.clause_defs.specs.declared.verdict.TheConstants.{MAX_INDEX}
 use Rattle.clause_defs.specs.Literals.{Literal, IsLiteral}
 use Rattle.clause_defs.specs.Clauses.{Lits, Has, IsClause}
@@ -13,10 +13,12 @@ use Rattle.sat_text_defs.specs.declared.fault.TheConstants.{MAX_TRACE_BYTES}
 use Rattle.sat_text_defs.specs.declared.fault.TraceFault.{TraceFault}
 use Rattle.sat_text_defs.specs.Words.{separates, literal_word}
 use Rattle.sat_text_defs.specs.Spellings.{clause_of}
-use Rattle.sat_text_defs.specs.TraceReading.{place_from, place_of, places_from, indices_of, judged, trace_from, trace_in, Part, start, among_lits, among_antecedents}
+use Rattle.sat_text_defs.specs.TraceReading.{place_of, places_from, indices_of, judged, trace_from, trace_in, Part, start, among_lits, among_antecedents}
 use Rattle.sat_text_defs.proofs.ClauseOf.{clause_of-ordered}
 use Rattle.sat_text.specs.Printed.{number_text, literal_text, trace_line, trace_text}
-use Rattle.sat_print_laws.proofs.SpelledWords.{IsWord-decimal, IsWord-literal, IsWord-zero, index_in-decimal, literal_in-word, is_zero-decimal, is_zero-literal}
+use Rattle.sat_text_laws.proofs.TraceWords.{word_index, index_nonzero, word_literal, literal_nonzero}
+use Rattle.sat_text_laws.proofs.Places.{place_from-found, place_from-none}
+use Rattle.sat_print_laws.proofs.WordBytes.{IsWord-decimal, IsWord-literal, IsWord-zero}
 use Rattle.sat_print_laws.proofs.PrintedWords.{Reads, Passes, Passes-append, Passes-blank, Passes-line_feed, by_tokens}
 
 -- the reader of a text that ends at `end`, behind the clauses t and in this part of a clause
@@ -28,13 +30,13 @@ from_here end t part = by_tokens (λ ts. trace_from end ts t part)
 index_passes : (end : ℕ) (t : List Entry) (i : ℕ) → 1 ≤ i → i ≤ MAX_INDEX → Passes (from_here end t start) (from_here end t (among_lits i [])) (number_text i)
 index_passes end t i low high =
     Passes-blank (λ ts. trace_from end ts t start) (λ ts. trace_from end ts t (among_lits i [])) (decimal i) (IsWord-decimal i (omega arith))
-    (λ at ts. rw (index_in-decimal i low high) refl)
+    (λ at ts. rw (word_index (decimal i) i low high refl) refl)
 
 literal_passes : (end : ℕ) (t : List Entry) (i : ℕ) (ls : Lits) (l : Literal) → IsLiteral l
     → Passes (from_here end t (among_lits i ls)) (from_here end t (among_lits i (ls ++ l ∷ []))) (literal_text l)
 literal_passes end t i ls l h =
     Passes-blank (λ ts. trace_from end ts t (among_lits i ls)) (λ ts. trace_from end ts t (among_lits i (ls ++ l ∷ []))) (literal_word l) (IsWord-literal l h)
-    (λ at ts. rw (is_zero-literal l h, literal_in-word l h) refl)
+    (λ at ts. rw (literal_nonzero (literal_word l) l h refl, word_literal (literal_word l) l h refl) refl)
 
 lits_pass : (end : ℕ) (t : List Entry) (i : ℕ) (ls cs all : Lits) → ((l : Literal) → Has cs l → IsLiteral l) → ls ++ cs ≡ all
     → Passes (from_here end t (among_lits i ls)) (from_here end t (among_lits i all)) (flat_map literal_text cs)
@@ -54,7 +56,7 @@ antecedent_passes : (end : ℕ) (t : List Entry) (i : ℕ) (ls : Lits) (xs : Lis
     → Passes (from_here end t (among_antecedents i ls xs)) (from_here end t (among_antecedents i ls (xs ++ x ∷ []))) (number_text x)
 antecedent_passes end t i ls xs x low high =
     Passes-blank (λ ts. trace_from end ts t (among_antecedents i ls xs)) (λ ts. trace_from end ts t (among_antecedents i ls (xs ++ x ∷ []))) (decimal x) (IsWord-decimal x (omega arith))
-    (λ at ts. rw (is_zero-decimal x (omega arith) low, index_in-decimal x low high) refl)
+    (λ at ts. rw (index_nonzero (decimal x) x low high refl, word_index (decimal x) x low high refl) refl)
 
 -- the places ps are printed by these indices
 antecedents_pass : (end : ℕ) (t : List Entry) (i : ℕ) (ls : Lits) (name : ℕ → ℕ) (xs ps all : List ℕ) → ((p : ℕ) → Has ps p → (1 ≤ name p) × (name p ≤ MAX_INDEX)) → xs ++ map name ps ≡ all
@@ -75,19 +77,6 @@ closing_passes end t u i ls xs right =
     Passes-line_feed (λ ts. trace_from end ts t (among_antecedents i ls xs)) (λ ts. trace_from end ts u start) (48 ∷ []) IsWord-zero (λ at ts. rw right refl)
 
 -- ---- the judgement of a clause
-
-place_from-absent : (k : ℕ) (es : List Entry) (x : ℕ) → ((j : ℕ) → j < length es → index_at es j ≢ x) → place_from k (indices_of es) x ≡ None
-place_from-absent k [] x others = refl
-place_from-absent k (e ∷ es) x others =
-    rw (ne_eqb e.index x (others zero (omega arith))) (place_from-absent (k + 1) es x (λ j h. others (suc j) (omega arith)))
-
-place_from-here : (k : ℕ) (es : List Entry) (p x : ℕ) → p < length es → index_at es p ≡ x → ((j : ℕ) → j < p → index_at es j ≢ x)
-    → place_from k (indices_of es) x ≡ Some (k + p)
-place_from-here k [] p x h same others = absurd (omega arith)
-place_from-here k (e ∷ es) zero x h same others = rw (eq-eqb e.index x same) (ap (λ (n : ℕ). Some n) (let r : k ≡ k + 0 = omega arith in r))
-place_from-here k (e ∷ es) (suc p) x h same others =
-    rw (ne_eqb e.index x (others zero (omega arith)))
-    (place_from-here (k + 1) es p x (omega arith) same (λ j b. others (suc j) (omega arith)) ∙ ap (λ (n : ℕ). Some n) (let r : k + 1 + p ≡ k + suc p = omega arith in r))
 
 places_from-here : (indices : List ℕ) (name : ℕ → ℕ) (qs ps all : List ℕ) → ((p : ℕ) → Has ps p → place_of indices (name p) ≡ Some p) → qs ++ ps ≡ all
     → places_from indices qs (map name ps) ≡ Ok all
@@ -116,7 +105,7 @@ record Follows (t done : List Entry) (e : Entry) : Type 0 where
 judged-follows : (t done : List Entry) (e : Entry) → Follows t done e
     → judged done (record { index = e.index; lits = e.lits; antecedents = map (index_at t) e.antecedents }) ≡ Ok (done ++ e ∷ [])
 judged-follows t done e f =
-    let new : place_of (indices_of done) e.index ≡ None = place_from-absent 0 done e.index f.new in
+    let new : place_of (indices_of done) e.index ≡ None = place_from-none 0 done e.index f.new in
     let places : places_from (indices_of done) [] (map (index_at t) e.antecedents) ≡ Ok e.antecedents =
     places_from-here (indices_of done) (index_at t) [] e.antecedents e.antecedents f.found refl in
     let ordered : e.lits ≡ clause_of e.lits = clause_of-ordered e.lits e.lits f.clause.ordered (same_refl e.lits) in
@@ -164,7 +153,7 @@ follows t done es e trace parts =
       new = λ j h same. trace.distinct j (length done) h within (sym (front j h) ∙ same ∙ sym index);
       named = λ p h. (let below : p < length done = earlier p h in (trace.low p (omega arith), trace.high p (omega arith)));
       found = λ p h. (let below : p < length done = earlier p h in
-          place_from-here 0 done p (index_at t p) below (front p below)
+          place_from-found 0 p done (index_at t p) below (front p below)
           (λ j b same. trace.distinct j p b (omega arith) (sym (front j (omega arith)) ∙ same)) ∙ ap (λ (n : ℕ). Some n) (let r : 0 + p ≡ p = omega arith in r));
     }
 

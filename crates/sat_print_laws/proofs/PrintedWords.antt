@@ -3,7 +3,7 @@ use Rattle.std.proofs.Common.{◌≡◌, ℕ, ◌+◌, false, List, [], ◌∷�
 use Rattle.text_defs.specs.Tokens.{Token, tokens, begins_with_token}
 use Rattle.text_defs.proofs.TokenLemmas.{tokens-run}
 use Rattle.sat_text_defs.specs.Words.{separates}
-use Rattle.sat_print_laws.proofs.SpelledWords.{IsWord}
+use Rattle.sat_print_laws.proofs.WordBytes.{IsWord}
 
 -- a reader of the bytes of a text whose first byte stands at an offset
 abbrev pub Reads : Type 0 → Type 0

@@ -1,4 +1,4 @@
-//! What the printers of CNFs and traces print is read again.
+//! What the printers of CNFs and traces print (`sat_text`) is read again, as the same value.
 //!
 //! Each function of this crate does nothing. Its contract is a law, which whoever calls it can rely
 //! on.

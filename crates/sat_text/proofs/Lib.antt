@@ -2,3 +2,4 @@ mod Judging
 mod FirstWord
 mod ClauseByClause
 mod Pieces
+mod ClimbingLemmas

@@ -1,4 +1,5 @@
 pub mod Answers
+pub mod Climbing
 pub mod Raw
 pub mod Header
 pub mod Values

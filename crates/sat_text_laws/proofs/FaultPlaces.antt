@@ -91,3 +91,36 @@ judged_by t s f None e h =
 
 pub judged-err : (t : List Entry) (s : Spelled) (f : TraceFault) → judged t s ≡ Err f → IsJudged t s f
 judged-err t s f e = judged_by t s f (place_of (indices_of t) s.index) refl e
+
+judged_when : (t : List Entry) (s : Spelled) (o : Option ℕ) → place_of (indices_of t) s.index ≡ o
+    → judged t s ≡ (if is_some o then Err (Repeated s.index) else with_places t s (places_from (indices_of t) [] s.antecedents))
+judged_when t s o e = ap (λ (p : Option ℕ). if is_some p then Err (Repeated s.index) else with_places t s (places_from (indices_of t) [] s.antecedents)) e
+
+judged_twice : (t : List Entry) (s : Spelled) (o : Option ℕ) → place_of (indices_of t) s.index ≡ o → HasIndex t s.index → judged t s ≡ Err (Repeated s.index)
+judged_twice t s None e h = absurd (none_has t s.index e h)
+judged_twice t s (Some q) e h = judged_when t s (Some q) e
+
+place_none : (t : List Entry) (x : ℕ) (o : Option ℕ) → place_of (indices_of t) x ≡ o → (HasIndex t x → ⊥) → place_of (indices_of t) x ≡ None
+place_none t x None e h = e
+place_none t x (Some q) e h = absurd (h (some_has t x q e))
+
+place_some : (t : List Entry) (x : ℕ) (o : Option ℕ) → place_of (indices_of t) x ≡ o → HasIndex t x → (q : ℕ) × (place_of (indices_of t) x ≡ Some q)
+place_some t x None e h = absurd (none_has t x e h)
+place_some t x (Some q) e h = (q, e)
+
+places_unknown : (t : List Entry) (ps known after : List ℕ) (x : ℕ) → ((y : ℕ) → Has known y → HasIndex t y) → (HasIndex t x → ⊥)
+    → places_from (indices_of t) ps (known ++ (x ∷ after)) ≡ Err x
+places_unknown t ps [] after x h none =
+    ap (λ (o : Option ℕ). ok_or o x >>= λ p. places_from (indices_of t) (ps ++ p ∷ []) after) (place_none t x (place_of (indices_of t) x) refl none)
+places_unknown t ps (y ∷ known) after x h none =
+    let one = place_some t y (place_of (indices_of t) y) refl (h y (inl refl)) in
+    ap (λ (o : Option ℕ). ok_or o y >>= λ p. places_from (indices_of t) (ps ++ p ∷ []) (known ++ (x ∷ after))) one.1
+    ∙ places_unknown t (ps ++ one.0 ∷ []) known after x (λ z i. h z (inr i)) none
+
+pub judged-repeated : (t : List Entry) (s : Spelled) → HasIndex t s.index → judged t s ≡ Err (Repeated s.index)
+judged-repeated t s h = judged_twice t s (place_of (indices_of t) s.index) refl h
+
+pub judged-unknown : (t : List Entry) (s : Spelled) (x : ℕ) → (HasIndex t s.index → ⊥) → FirstUnknown t s.antecedents x → judged t s ≡ Err (Unknown s.index x)
+judged-unknown t s x none h =
+    judged_when t s None (place_none t s.index (place_of (indices_of t) s.index) refl none)
+    ∙ ap (with_places t s) (ap (places_from (indices_of t) []) h.parts ∙ places_unknown t [] h.known h.after x h.each_known h.unknown)

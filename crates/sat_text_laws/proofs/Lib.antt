@@ -7,3 +7,4 @@ pub mod TraceWritten
 pub mod FaultPlaces
 pub mod OpenClause
 pub mod TraceFaults
+pub mod FaultsRead

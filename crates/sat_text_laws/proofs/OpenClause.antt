@@ -1,7 +1,6 @@
 -- The words of an open clause: none of its parts is whole, and which words can stand behind them.
-use Rattle.std.proofs.Common.{◌≡◌, ℕ, ◌≤◌, ◌⊎◌, inl, inr, Bool, true, false, not, List, [], ◌∷◌, ◌++◌, map, decimal, if◌then◌else◌, refl, sym, ap, subst, ◌∙◌, arith}
-use Rattle.clause_defs.specs.Literals.{Literal, IsLiteral}
-use Rattle.clause_defs.specs.Clauses.{Lits, Has}
+use Rattle.std.proofs.Common.{◌≡◌, ℕ, ◌≤◌, ◌⊎◌, inl, inr, Bool, true, false, not, List, [], ◌∷◌, ◌++◌, map, decimal, if◌then◌else◌, refl, sym, ap, subst, ◌∙◌}
+use Rattle.clause_defs.specs.Clauses.{Lits}
 use Rattle.text_defs.specs.Tokens.{Token}
 use Rattle.sat_text_defs.specs.Words.{words_of, zero_word, literal_word}
 use Rattle.sat_text_defs.specs.Spellings.{is_zero}

@@ -1,5 +1,5 @@
 -- The fault that is computed of a text is the one that the text has.
-use Rattle.std.proofs.Common.{◌≡◌, ℕ, ◌<◌, ◌≤◌, ◌⊎◌, inl, inr, Bool, true, false, not, nat_lt, List, [], ◌∷◌, ◌++◌, length, map, decimal, Option, Some, None, ok_or, Result, Ok, Err, if◌then◌else◌, refl, sym, ap, subst, ◌∙◌, arith}
+use Rattle.std.proofs.Common.{◌≡◌, ℕ, ◌⊎◌, inl, inr, Bool, true, false, not, nat_lt, List, [], ◌∷◌, ◌++◌, length, map, decimal, Some, None, ok_or, Result, Ok, Err, if◌then◌else◌, refl, sym, ap, subst, ◌∙◌}
 use Rattle.std.proofs.lemmas.Bool.{cases_Bool, ltb-true, ltb-false}
 use Rattle.std.proofs.lemmas.List.{append-nil, append_assoc, map-append}
 use Rattle.std.specs.List.{flat_map}
@@ -9,38 +9,38 @@ use Rattle.clause_defs.specs.Traces.{Entry}
 use Rattle.text_defs.specs.Tokens.{Token}
 use Rattle.sat_text_defs.specs.declared.fault.TheConstants.{MAX_TRACE_BYTES}
 use Rattle.sat_text_defs.specs.declared.fault.TraceFault.{TraceFault}
-use Rattle.sat_text_defs.specs.declared.fault.TraceFault.TheVariants.{TooLong, Syntax, Repeated, Unknown}
+use Rattle.sat_text_defs.specs.declared.fault.TraceFault.TheVariants.{TooLong, Syntax}
 use Rattle.sat_text_defs.specs.Words.{words_of, bytes_of, zero_word, literal_word}
 use Rattle.sat_text_defs.specs.Spellings.{is_zero, index_in, literal_in}
-use Rattle.sat_text_defs.specs.TraceText.{Spelled, clause_words, SpellsTrace, tokens_of, IsIndexWord, IsLiteralWord, flips, odd_zeros, ends_in_zero, CanStandAs, CanStand, EachCanStand, AreWhole, StandsBefore, FirstBad, EndsInside, IsSpelledClause, FirstJudged, FaultOf, TraceTextFault}
-use Rattle.sat_text_defs.specs.TraceReading.{◌>>=◌, judged, Part, start, among_lits, among_antecedents, trace_from, trace_in}
+use Rattle.sat_text_defs.specs.TraceText.{Spelled, clause_words, SpellsTrace, tokens_of, IsIndexWord, IsLiteralWord, odd_zeros, ends_in_zero, CanStandAs, CanStand, EachCanStand, StandsBefore, FirstBad, EndsInside, FirstJudged, FaultOf, TraceTextFault}
+use Rattle.sat_text_defs.specs.TraceReading.{judged, Part, start, among_lits, among_antecedents, trace_from, trace_in}
 use Rattle.sat_text_laws.proofs.TraceWords.{is_zero-word, word_zero, index_in-word, word_index, index_nonzero, literal_in-word, word_literal, literal_nonzero}
-use Rattle.sat_text_laws.proofs.TraceReads.{open_words, IsPart, IsRead, read_index, read_literal, read_first_zero, read_antecedent, read_second_zero, append_end, append_nothing, append_assoc_words, nothing_read}
+use Rattle.sat_text_laws.proofs.TraceReads.{open_words, IsRead, read_index, read_literal, read_first_zero, read_antecedent, read_second_zero, append_end, append_nothing, append_assoc_words, nothing_read}
 use Rattle.sat_text_laws.proofs.FaultPlaces.{bind_err, ok_or_err, ok_or_some, IsJudged, judged-err}
 use Rattle.sat_text_laws.proofs.OpenClause.{odd_zeros-snoc, ends_in_zero-snoc, EachCanStand-snoc, EachCanStand-empty, none_whole}
 
 -- ---- what was read so far
 
-abbrev is_behind_zero : Part → Bool
+abbrev pub is_behind_zero : Part → Bool
 is_behind_zero start = false
 is_behind_zero (among_lits i ls) = false
 is_behind_zero (among_antecedents i ls xs) = true
 
 -- whether the last word is `0`, where that matters
-abbrev LastIs : Part → Bool → Type 0
+abbrev pub LastIs : Part → Bool → Type 0
 LastIs start zero = zero ≡ true
 LastIs (among_lits i ls) zero = zero ≡ false
 LastIs (among_antecedents i ls xs) zero = Unit {0}
 
 -- all these tokens can stand, and they are the clauses of t and an open clause
-record Stands (before : List Token) (t : List Entry) (p : Part) : Type 0 where
-  read : IsRead (words_of before) [] t p
-  each : EachCanStand before
-  odd : odd_zeros false (words_of before) ≡ is_behind_zero p
-  last : LastIs p (ends_in_zero true (words_of before))
+pub record Stands (before : List Token) (t : List Entry) (p : Part) : Type 0 where
+  pub read : IsRead (words_of before) [] t p
+  pub each : EachCanStand before
+  pub odd : odd_zeros false (words_of before) ≡ is_behind_zero p
+  pub last : LastIs p (ends_in_zero true (words_of before))
 
 -- which word can stand there
-abbrev Next : Part → List ℕ → Type 0
+abbrev pub Next : Part → List ℕ → Type 0
 Next start w = IsIndexWord w
 Next (among_lits i ls) w = IsLiteralWord w ⊎ (w ≡ zero_word)
 Next (among_antecedents i ls xs) w = IsIndexWord w ⊎ (w ≡ zero_word)
@@ -55,10 +55,10 @@ as_stands start odd zero w e f h = subst (λ (b : Bool). CanStandAs false b w) f
 as_stands (among_lits i ls) odd zero w e f h = subst (λ (b : Bool). CanStandAs false b w) f (subst (λ (b : Bool). CanStandAs b zero w) e h)
 as_stands (among_antecedents i ls xs) odd zero w e f h = subst (λ (b : Bool). CanStandAs b zero w) e h
 
-can_stand : (before : List Token) (t : List Entry) (p : Part) (w : List ℕ) → Stands before t p → Next p w → CanStand (words_of before) w
+pub can_stand : (before : List Token) (t : List Entry) (p : Part) (w : List ℕ) → Stands before t p → Next p w → CanStand (words_of before) w
 can_stand before t p w h k = stands_as p (odd_zeros false (words_of before)) (ends_in_zero true (words_of before)) w h.odd h.last k
 
-stand_can : (before : List Token) (t : List Entry) (p : Part) (w : List ℕ) → Stands before t p → CanStand (words_of before) w → Next p w
+pub stand_can : (before : List Token) (t : List Entry) (p : Part) (w : List ℕ) → Stands before t p → CanStand (words_of before) w → Next p w
 stand_can before t p w h k = as_stands p (odd_zeros false (words_of before)) (ends_in_zero true (words_of before)) w h.odd h.last k
 
 -- ---- one token more
@@ -70,9 +70,9 @@ extended before ts t p h = record {
   spelled = h.spelled;
   same_clauses = h.same_clauses;
   parts = map-append bytes_of before ts
-    ∙ ap (λ (ws : List (List ℕ)). ws ++ words_of ts)
+      ∙ ap (λ (ws : List (List ℕ)). ws ++ words_of ts)
       (h.parts ∙ ap (λ (ws : List (List ℕ)). flat_map clause_words h.spelled ++ ws) (append_nothing (open_words p)))
-    ∙ append_assoc_words (flat_map clause_words h.spelled) (open_words p) (words_of ts);
+      ∙ append_assoc_words (flat_map clause_words h.spelled) (open_words p) (words_of ts);
 }
 
 odd_after : (before : List Token) (w : Token) (odd z : Bool) → odd_zeros false (words_of before) ≡ odd → is_zero w.bytes ≡ z
@@ -96,26 +96,26 @@ goes_on before w t u p q z h next zero odd last read = record {
   last = subst (LastIs q) (sym (last_after before w z zero)) last;
 }
 
-stands_index : (before : List Token) (w : Token) (t : List Entry) (i : ℕ) → Stands before t start → index_in w.bytes ≡ Some i → Stands (before ++ w ∷ []) t (among_lits i [])
+pub stands_index : (before : List Token) (w : Token) (t : List Entry) (i : ℕ) → Stands before t start → index_in w.bytes ≡ Some i → Stands (before ++ w ∷ []) t (among_lits i [])
 stands_index before w t i h e =
     let word = index_in-word w.bytes i e in
     goes_on before w t t start (among_lits i []) false h (i, word.1, word.2, word.0) (index_nonzero w.bytes i word.1 word.2 word.0) refl refl
     (read_index (words_of (before ++ w ∷ [])) w [] t i (extended before (w ∷ []) t start h.read) e)
 
-stands_literal : (before : List Token) (w : Token) (t : List Entry) (i : ℕ) (ls : Lits) (l : Literal) → Stands before t (among_lits i ls) → literal_in w.bytes ≡ Some l
+pub stands_literal : (before : List Token) (w : Token) (t : List Entry) (i : ℕ) (ls : Lits) (l : Literal) → Stands before t (among_lits i ls) → literal_in w.bytes ≡ Some l
     → Stands (before ++ w ∷ []) t (among_lits i (ls ++ l ∷ []))
 stands_literal before w t i ls l h e =
     let word = literal_in-word w.bytes l e in
     goes_on before w t t (among_lits i ls) (among_lits i (ls ++ l ∷ [])) false h (inl (l, word.0, word.1)) (literal_nonzero w.bytes l word.0 word.1) refl refl
     (read_literal (words_of (before ++ w ∷ [])) w [] t i ls l (extended before (w ∷ []) t (among_lits i ls) h.read) e)
 
-stands_first_zero : (before : List Token) (w : Token) (t : List Entry) (i : ℕ) (ls : Lits) → Stands before t (among_lits i ls) → is_zero w.bytes ≡ true
+pub stands_first_zero : (before : List Token) (w : Token) (t : List Entry) (i : ℕ) (ls : Lits) → Stands before t (among_lits i ls) → is_zero w.bytes ≡ true
     → Stands (before ++ w ∷ []) t (among_antecedents i ls [])
 stands_first_zero before w t i ls h e =
     goes_on before w t t (among_lits i ls) (among_antecedents i ls []) true h (inr (is_zero-word w.bytes e)) e refl tt
     (read_first_zero (words_of (before ++ w ∷ [])) w [] t i ls (extended before (w ∷ []) t (among_lits i ls) h.read) e)
 
-stands_antecedent : (before : List Token) (w : Token) (t : List Entry) (i : ℕ) (ls : Lits) (xs : List ℕ) (x : ℕ) → Stands before t (among_antecedents i ls xs) → index_in w.bytes ≡ Some x
+pub stands_antecedent : (before : List Token) (w : Token) (t : List Entry) (i : ℕ) (ls : Lits) (xs : List ℕ) (x : ℕ) → Stands before t (among_antecedents i ls xs) → index_in w.bytes ≡ Some x
     → Stands (before ++ w ∷ []) t (among_antecedents i ls (xs ++ x ∷ []))
 stands_antecedent before w t i ls xs x h e =
     let word = index_in-word w.bytes x e in
@@ -123,10 +123,10 @@ stands_antecedent before w t i ls xs x h e =
     (index_nonzero w.bytes x word.1 word.2 word.0) refl tt
     (read_antecedent (words_of (before ++ w ∷ [])) w [] t i ls xs x (extended before (w ∷ []) t (among_antecedents i ls xs) h.read) e)
 
-abbrev clause : ℕ → Lits → List ℕ → Spelled
+abbrev pub clause : ℕ → Lits → List ℕ → Spelled
 clause i ls xs = record { index = i; lits = ls; antecedents = xs }
 
-stands_second_zero : (before : List Token) (w : Token) (t u : List Entry) (i : ℕ) (ls : Lits) (xs : List ℕ) → Stands before t (among_antecedents i ls xs) → is_zero w.bytes ≡ true
+pub stands_second_zero : (before : List Token) (w : Token) (t u : List Entry) (i : ℕ) (ls : Lits) (xs : List ℕ) → Stands before t (among_antecedents i ls xs) → is_zero w.bytes ≡ true
     → judged t (clause i ls xs) ≡ Ok u → Stands (before ++ w ∷ []) u start
 stands_second_zero before w t u i ls xs h e right =
     goes_on before w t u (among_antecedents i ls xs) start true h (inr (is_zero-word w.bytes e)) e refl refl
@@ -183,7 +183,7 @@ no_index w e h = let some : index_in w ≡ Some h.0 = word_index w h.0 h.1 h.2 h
 no_literal : (w : List ℕ) → literal_in w ≡ None → IsLiteralWord w → ⊥
 no_literal w e h = let some : literal_in w ≡ Some h.0 = word_literal w h.0 h.1 h.2 in absurd (cc)
 
-no_zero : (w : List ℕ) → is_zero w ≡ false → w ≡ zero_word → ⊥
+pub no_zero : (w : List ℕ) → is_zero w ≡ false → w ≡ zero_word → ⊥
 no_zero w e h = let zero : is_zero w ≡ true = word_zero w h in absurd (cc)
 
 bad_word : (end : ℕ) (all before ts : List Token) (w : Token) (t : List Entry) (p : Part) (f : TraceFault) → all ≡ before ++ (w ∷ ts) → Stands before t p → (Next p w.bytes → ⊥)
@@ -193,7 +193,7 @@ bad_word end all before ts w t p f e h bad same = subst (FaultOf end all) same (
 bad_end : (end : ℕ) (all before : List Token) (t : List Entry) (p : Part) (f : TraceFault) → all ≡ before ++ [] → Stands before t p → IsInside p → Syntax end ≡ f → FaultOf end all f
 bad_end end all before t p f e h i same = subst (FaultOf end all) same (inr (ends_inside all before t p e h i, refl))
 
-first_judged : (all before ts : List Token) (w : Token) (t : List Entry) (i : ℕ) (ls : Lits) (xs : List ℕ) → all ≡ before ++ (w ∷ ts) → Stands before t (among_antecedents i ls xs)
+pub first_judged : (all before ts : List Token) (w : Token) (t : List Entry) (i : ℕ) (ls : Lits) (xs : List ℕ) → all ≡ before ++ (w ∷ ts) → Stands before t (among_antecedents i ls xs)
     → is_zero w.bytes ≡ true → FirstJudged (words_of all) t (clause i ls xs)
 unfolding extended
 first_judged all before ts w t i ls xs e h zero =
@@ -204,7 +204,7 @@ first_judged all before ts w t i ls xs e h zero =
       spells = spells_whole before t (among_antecedents i ls xs) h.read;
       clause = record { low = h.read.part.0; high = h.read.part.1; lits = h.read.part.2; antecedents = h.read.part.3 };
       parts = ap words_of e ∙ long.parts
-        ∙ ap (λ (ws : List (List ℕ)). flat_map clause_words h.read.spelled ++ ws)
+          ∙ ap (λ (ws : List (List ℕ)). flat_map clause_words h.read.spelled ++ ws)
           (append_end (decimal i ∷ map literal_word ls) (zero_word ∷ map decimal xs) (words_of ts) w.bytes zero_word (is_zero-word w.bytes zero));
     }
 
@@ -266,7 +266,7 @@ fault_of end all before (w ∷ ts) t (among_antecedents i ls xs) f e h r = elim 
       ]
 ]
 
-nothing_stands : Stands [] [] start
+pub nothing_stands : Stands [] [] start
 nothing_stands = record { read = nothing_read []; each = EachCanStand-empty; odd = refl; last = refl }
 
 guarded : {A F : Type 0} (b : Bool) (d : F) (r : Result A F) (f : F) → (if b then Err d else r) ≡ Err f → ((b ≡ true) × (f ≡ d)) ⊎ ((b ≡ false) × (r ≡ Err f))
@@ -276,6 +276,8 @@ guarded false d r f e = inr (refl, e)
 pub trace_in-fault : (text : List ℕ) (f : TraceFault) → trace_in text ≡ Err f → TraceTextFault text f
 trace_in-fault text f e = elim (guarded (nat_lt MAX_TRACE_BYTES (length text)) TooLong (trace_from (length text) (tokens_of text) [] start) f e) [
   | inl long ↦ inl (ltb-true MAX_TRACE_BYTES (length text) long.0, long.1)
-  | inr read ↦ inr (ltb-false MAX_TRACE_BYTES (length text) read.0,
-      fault_of (length text) (tokens_of text) [] (tokens_of text) [] start f refl nothing_stands read.1)
+  | inr read ↦ inr (
+    ltb-false MAX_TRACE_BYTES (length text) read.0,
+    fault_of (length text) (tokens_of text) [] (tokens_of text) [] start f refl nothing_stands read.1,
+  )
 ]

@@ -14,7 +14,7 @@ use Rattle.sat_text_defs.specs.declared.fault.TraceFault.{TraceFault}
 use Rattle.sat_text_defs.specs.declared.fault.TraceFault.TheVariants.{Repeated}
 use Rattle.sat_text_defs.specs.Words.{words_of, zero_word, literal_word}
 use Rattle.sat_text_defs.specs.Spellings.{is_zero, index_in, literal_in, clause_of}
-use Rattle.sat_text_defs.specs.TraceText.{Spelled, clause_words, IsSpelled, AreSpelled, IsSpelledClause, TraceText, tokens_of}
+use Rattle.sat_text_defs.specs.TraceText.{Spelled, clause_words, IsSpelled, AreSpelled, IsSpelledClause, SpellsTrace, TraceText, tokens_of}
 use Rattle.sat_text_defs.specs.TraceReading.{◌>>=◌, place_of, places_from, indices_of, with_places, judged, start, among_lits, among_antecedents, trace_from, trace_in}
 use Rattle.sat_text_defs.proofs.ClauseOf.{clause_of-ordered}
 use Rattle.sat_text_laws.proofs.TraceWords.{word_zero, word_index, index_nonzero, word_literal, literal_nonzero}
@@ -212,23 +212,39 @@ spelled_within t done s e h =
 
 -- ---- the whole text
 
-written_all : (end : ℕ) (t : List Entry) (ts : List Token) (done es : List Entry) (ss : List Spelled) → IsTrace t → t ≡ done ++ es
-    → AreSpelled t ss es → words_of ts ≡ flat_map clause_words ss → trace_from end ts done start ≡ Ok t
-written_all end t [] done [] [] h parts same e = ap Ok (sym (parts ∙ append-nil done))
-written_all end t (w ∷ ts) done [] [] h parts same e = absurd (cc)
-written_all end t ts done (e ∷ es) [] h parts same words = absurd same
-written_all end t ts done [] (s ∷ ss) h parts same words = absurd same
-written_all end t ts done (e ∷ es) (s ∷ ss) h parts same words =
+written_all : (end : ℕ) (t : List Entry) (ts : List Token) (done es : List Entry) (ss : List Spelled) (rest : List (List ℕ)) → IsTrace t → t ≡ done ++ es
+    → AreSpelled t ss es → words_of ts ≡ flat_map clause_words ss ++ rest
+    → (us : List Token) × (words_of us ≡ rest) × (trace_from end ts done start ≡ trace_from end us t start)
+written_all end t ts done [] [] rest h parts same e = (ts, e, ap (λ (d : List Entry). trace_from end ts d start) (sym (parts ∙ append-nil done)))
+written_all end t ts done (e ∷ es) [] rest h parts same words = absurd same
+written_all end t ts done [] (s ∷ ss) rest h parts same words = absurd same
+written_all end t ts done (e ∷ es) (s ∷ ss) rest h parts same words =
     let stands = stands_behind t done es s e h parts same.0 in
-    let read = read_clause end ts done s (flat_map clause_words ss) (spelled_within t done s e stands) words in
-    let rest = written_all end t read.0 (done ++ e ∷ []) es ss h (parts ∙ sym (append_assoc done (e ∷ []) es)) same.1 read.1 in
-    read.2
-    ∙ ap (λ (r : Result (List Entry) TraceFault). r >>= λ u. trace_from end read.0 u start) (judged_right t done s e stands)
-    ∙ rest
+    let read = read_clause end ts done s (flat_map clause_words ss ++ rest) (spelled_within t done s e stands)
+    (words ∙ append_assoc (clause_words s) (flat_map clause_words ss) rest) in
+    let more = written_all end t read.0 (done ++ e ∷ []) es ss rest h (parts ∙ sym (append_assoc done (e ∷ []) es)) same.1 read.1 in (
+      more.0,
+      more.1,
+      read.2
+          ∙ ap (λ (r : Result (List Entry) TraceFault). r >>= λ u. trace_from end read.0 u start) (judged_right t done s e stands)
+          ∙ more.2,
+    )
 
-not_long : (text : List ℕ) → length text ≤ MAX_TRACE_BYTES → trace_in text ≡ trace_from (length text) (tokens_of text) [] start
+-- tokens that begin with the words of a trace are read as this trace, as far as these words go
+pub spelled_read : (end : ℕ) (t : List Entry) (ts : List Token) (whole rest : List (List ℕ)) → SpellsTrace whole t → words_of ts ≡ whole ++ rest
+    → (us : List Token) × (words_of us ≡ rest) × (trace_from end ts [] start ≡ trace_from end us t start)
+spelled_read end t ts whole rest h e =
+    written_all end t ts [] t h.spelled rest h.trace refl h.same_clauses (e ∙ ap (λ (ws : List (List ℕ)). ws ++ rest) h.same_words)
+
+read_to_end : (end : ℕ) (t : List Entry) (us : List Token) → words_of us ≡ [] → trace_from end us t start ≡ Ok t
+read_to_end end t [] e = refl
+read_to_end end t (w ∷ us) e = absurd (cc)
+
+pub not_long : (text : List ℕ) → length text ≤ MAX_TRACE_BYTES → trace_in text ≡ trace_from (length text) (tokens_of text) [] start
 not_long text h = rw (le-ltb MAX_TRACE_BYTES (length text) h) refl
 
 pub text-trace_in : (text : List ℕ) (t : List Entry) → TraceText text t → trace_in text ≡ Ok t
 text-trace_in text t h =
-    not_long text h.0 ∙ written_all (length text) t (tokens_of text) [] t h.1.spelled h.1.trace refl h.1.same_clauses h.1.same_words
+    let ws = words_of (tokens_of text) in
+    let read = spelled_read (length text) t (tokens_of text) ws [] h.1 (sym (append-nil ws)) in
+    not_long text h.0 ∙ read.2 ∙ read_to_end (length text) t read.0 read.1

@@ -26,3 +26,9 @@ pub fn written_traces_are_computed()
 pub fn computed_faults_are_the_texts()
     ensures { (text : List ℕ) (f : TraceFault) → trace_in text ≡ Err f → TraceTextFault text f }
 {}
+
+/// The fault that a text has is the one that is computed of it, so a text has one fault at most, and none if it has a
+/// trace.
+pub fn faults_of_texts_are_computed()
+    ensures { (text : List ℕ) (f : TraceFault) → TraceTextFault text f → trace_in text ≡ Err f }
+{}

@@ -1,1 +1,3 @@
+pub mod BucketLemmas
 pub mod PlaceLemmas
+pub mod PushLemmas

@@ -1,5 +1,5 @@
 -- Where an index stands in a list.
-use Rattle.std.proofs.Common.{◌≡◌, ℕ, zero, suc, ◌+◌, ◌<◌, ◌==◌, true, false, cond, if◌then◌else◌, List, [], ◌∷◌, ◌++◌, length, get_or, drop, replicate, Option, Some, None, Ok, Err, ◌⊎◌, refl, sym, ap, ◌∙◌, inl, inr, arith, add-one, subst, nat_cmp, length-append}
+use Rattle.std.proofs.Common.{◌≡◌, ℕ, zero, suc, ◌+◌, ◌<◌, ◌==◌, true, false, if◌then◌else◌, List, [], ◌∷◌, ◌++◌, length, get_or, drop, replicate, Option, Some, None, Ok, Err, ◌⊎◌, refl, sym, ap, ◌∙◌, inl, inr, arith, add-one, subst, nat_cmp, length-append}
 use Rattle.std.proofs.lemmas.List.{drop_more}
 use Rattle.std.proofs.lemmas.Bool.{cases_eq, cases_Bool, cases_lt, eq-eqb, ne_eqb, lt-ltb, le-ltb, cond-true, cond-false}
 use Rattle.std.specs.BTreeMap.{is_at}
@@ -70,31 +70,34 @@ AreIndexed-put indices table new others x none put indexed = record {
   ];
 }
 
-either_first : (a b : Option ℕ) → None ≡ either a b → a ≡ None
+pub either_first : (a b : Option ℕ) → None ≡ either a b → a ≡ None
 either_first None b e = refl
 either_first (Some p) b e = absurd (cc)
 
-is_at_same : (x : ℕ) → is_at (nat_cmp x) x ≡ true
+pub is_at_same : (x : ℕ) → is_at (nat_cmp x) x ≡ true
 is_at_same x = rw (le-ltb x x (omega arith), eq-eqb x x refl) refl
 
-is_at_other : (x y : ℕ) → (x ≡ y → ⊥) → is_at (nat_cmp x) y ≡ false
+pub is_at_other : (x y : ℕ) → (x ≡ y → ⊥) → is_at (nat_cmp x) y ≡ false
 is_at_other x y other = elim (cases_lt x y) [
   | inl h ↦ rw (lt-ltb x y h) refl
   | inr h ↦ rw (le-ltb x y h, ne_eqb x y other) refl
 ]
 
--- one more index, in the map
-pub AreIndexed-insert : (indices table : List ℕ) (others new : ℕ → Option ℕ) (x : ℕ) → place_of indices x ≡ None
-    → ((y : ℕ) → new y ≡ cond (is_at (nat_cmp x) y) (Some (length indices)) (others y))
+pub either_second : (a b : Option ℕ) → None ≡ either a b → b ≡ None
+either_second None b e = sym e
+either_second (Some p) b e = absurd (cc)
+
+-- one more index, elsewhere
+pub AreIndexed-more : (indices table : List ℕ) (others new : ℕ → Option ℕ) (x : ℕ) → place_of indices x ≡ None
+    → new x ≡ Some (length indices) → ((y : ℕ) → (x ≡ y → ⊥) → new y ≡ others y)
     → AreIndexed indices table others → AreIndexed (indices ++ x ∷ []) table new
-AreIndexed-insert indices table others new x none insert indexed = record {
+AreIndexed-more indices table others new x none here there indexed = record {
   each = λ y. elim (cases_eq x y) [
     | inl e ↦ subst (λ (z : ℕ). place_of (indices ++ x ∷ []) z ≡ either (place_in (get_or table z 0)) (new z)) e
         (place_of-push_same indices x none
-        ∙ sym (ap (λ (a : Option ℕ). either a (new x)) (either_first (place_in (get_or table x 0)) (others x) (sym none ∙ indexed.each x))
-        ∙ insert x ∙ cond-true (is_at (nat_cmp x) x) (Some (length indices)) (others x) (is_at_same x)))
+        ∙ sym (ap (λ (a : Option ℕ). either a (new x)) (either_first (place_in (get_or table x 0)) (others x) (sym none ∙ indexed.each x)) ∙ here))
     | inr other ↦ place_of-push_other indices x y other ∙ indexed.each y
-        ∙ sym (ap (either (place_in (get_or table y 0))) (insert y ∙ cond-false (is_at (nat_cmp x) y) (Some (length indices)) (others y) (is_at_other x y other)))
+        ∙ sym (ap (either (place_in (get_or table y 0))) (there y other))
   ];
 }
 

@@ -1,6 +1,7 @@
 ghost use Rattle.std.specs.Prelude.{◌≡◌, ◌==◌, ℕ, vec_len, slice_index, if◌then◌else◌, ◌+◌, ◌<◌, ◌^◌, ◌∷◌, ◌++◌, [], length, IfOk, OnOk, OnErr, Ok, Err, None, MatchOption};
 ghost use Rattle.sat_text_defs.specs.TraceReading.{place_of, places_from};
 
+use crate::buckets::Buckets;
 use pch_base::NoMemory;
 use std::alloc::Global;
 use std::collections::BTreeMap;
@@ -14,6 +15,7 @@ pub struct Places {
     indices: Vec<u32>,
     table: Vec<u32>,
     table_limit: usize,
+    buckets: Buckets,
     others: BTreeMap<u32, u32>,
 }
 
@@ -21,13 +23,13 @@ impl Model for Places {
     ghost use Rattle.std.specs.Prelude.{ℕ, List};
     ghost use Rattle.std.specs.Ordering.{nat_cmp};
     ghost use Rattle.std.specs.BTreeMap.{get};
-    ghost use Rattle.trace_places.specs.Places.{AreIndexed};
+    ghost use Rattle.trace_places.specs.Places.{ArePlaces};
 
     ghost Value = { List ℕ };
 
     ghost view = { λ p. p.indices.items };
 
-    ghost invariant = { λ p. AreIndexed p.indices.items p.table.items (get nat_cmp p.others) };
+    ghost invariant = { λ p. ArePlaces p.indices.items p.table.items p.buckets.keys.items p.buckets.places.items p.buckets.latest.items p.buckets.earlier.items (get nat_cmp p.others) };
 }
 
 impl Places {
@@ -39,6 +41,7 @@ impl Places {
             indices: Vec::new(alloc),
             table: Vec::new(alloc),
             table_limit,
+            buckets: Buckets::new(alloc),
             others: BTreeMap::new(alloc),
         }
     }
@@ -51,6 +54,9 @@ impl Places {
         let at = index as usize;
         if at < self.table.len() && self.table[at] != 0 {
             return Some(self.table[at] - 1);
+        }
+        if let Some(place) = self.buckets.get(index) {
+            return Some(place);
         }
         self.others.get(&index).copied()
     }
@@ -71,7 +77,12 @@ impl Places {
             self.indices.push_reserved(index);
             return Ok(());
         }
-        self.others.insert(index, place)?;
+        if self.buckets.is_full(index) {
+            self.others.insert(index, place)?;
+            self.indices.push_reserved(index);
+            return Ok(());
+        }
+        self.buckets.add(index, place)?;
         self.indices.push_reserved(index);
         Ok(())
     }

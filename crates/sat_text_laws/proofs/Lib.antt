@@ -8,3 +8,4 @@ pub mod FaultPlaces
 pub mod OpenClause
 pub mod TraceFaults
 pub mod FaultsRead
+pub mod OneReading

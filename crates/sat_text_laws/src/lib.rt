@@ -5,6 +5,6 @@
 mod laws;
 
 pub use laws::{
-    computed_faults_are_the_texts, computed_traces_are_written, faults_of_texts_are_computed,
-    positive_words_are_spelled, written_traces_are_computed,
+    fault_of_a_trace_text_is_computed, positive_words_are_spelled, text_has_one_trace_or_fault,
+    trace_of_a_text_is_computed,
 };

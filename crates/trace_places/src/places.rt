@@ -72,8 +72,10 @@ impl Places {
         }
         let place = self.indices.len() as u32;
         self.indices.reserve(1)?;
-        if (index as usize) < self.table_limit {
-            put(&mut self.table, self.table_limit, index, place + 1)?;
+        // A few indices that are small by chance must not make the table long.
+        let limit = self.table_limit.min(8 * self.indices.len() + 65_536);
+        if (index as usize) < limit {
+            put(&mut self.table, limit, index, place + 1)?;
             self.indices.push_reserved(index);
             return Ok(());
         }

@@ -4,8 +4,8 @@ use Rattle.sat_text_defs.specs.TraceReading.{place_of}
 use Rattle.trace_places.proofs.PushLemmas.{ArePlaces-put, ArePlaces-insert, ArePlaces-added}
 use Rattle.trace_places.proofs.places.Places.push.Goals as goal
 
-pub invariant_of-self-then-index-self : goal.invariant_of-self-then-index-self
-invariant_of-self-then-index-self c =
+pub invariant_of-self-then-index-limit : goal.invariant_of-self-then-index-limit
+invariant_of-self-then-index-limit c =
     let none : place_of c.self.inside.indices.items c.args.index ≡ None = cc in
     let items : c.push_reserved.new.self.items ≡ c.self.inside.indices.items ++ c.args.index ∷ [] = cc in
     let place : c.len-place.result + 1 ≡ length c.self.inside.indices.items + 1 = ap (λ (n : ℕ). n + 1) (c.len-place.ensures ∙ c.self.inside.indices.ok.0) in

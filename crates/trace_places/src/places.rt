@@ -73,7 +73,7 @@ impl Places {
         let place = self.indices.len() as u32;
         self.indices.reserve(1)?;
         // A few indices that are small by chance must not make the table long.
-        let limit = self.table_limit.min(8 * self.indices.len() + 65_536);
+        let limit = self.table_limit.min(4 * self.indices.len() + 65_536);
         if (index as usize) < limit {
             put(&mut self.table, limit, index, place + 1)?;
             self.indices.push_reserved(index);

@@ -1,4 +1,4 @@
-ghost use Rattle.std.specs.Prelude.{◌≡◌, ◌≤◌, ◌^◌, ◌↔◌, ◌+◌, ◌-◌, min, if◌then◌else◌, IsTrue, Contains, vec_items};
+ghost use Rattle.std.specs.Prelude.{◌≡◌, ◌≤◌, ◌^◌, ◌↔◌, ◌+◌, ◌-◌, min, if◌then◌else◌, IsTrue, Contains, vec_items, false};
 ghost use Rattle.pch_io.specs.Memory.{next_number};
 ghost use Rattle.pch_io.specs.Outside.{Rose};
 
@@ -42,6 +42,7 @@ impl Script {
         ensures made { self.new.made ≡ next_number self.old }
         ensures later { self.old.faults ≤ self.new.faults }
         ensures rose { IsTrue result → Rose self.old.faults self.new.faults }
+        ensures calm { result ≡ false → self.new.faults ≡ self.old.faults }
     {
         self.made = self.made.saturating_add(1);
         let fails = self.failing.contains(&self.made);

@@ -1,4 +1,4 @@
-ghost use Rattle.std.specs.Prelude.{◌≡◌, ◌≤◌, ℕ};
+ghost use Rattle.std.specs.Prelude.{◌≡◌, ◌+◌, ◌-◌, ◌^◌, ◌≤◌, min, ℕ};
 ghost use Rattle.pch_io.specs.Outside.{Rose};
 
 use std::marker::Model;
@@ -29,6 +29,7 @@ impl FaultCount {
     pub fn raise(&mut self)
         ensures later { self.old ≤ self.new }
         ensures rose { Rose self.old self.new }
+        ensures by_one { self.new ≡ min (self.old + 1) (2 ^ 64 - 1) }
     {
         self.count = self.count.saturating_add(1);
     }

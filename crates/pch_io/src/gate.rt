@@ -11,7 +11,8 @@ pub trait Gate: Sync {
     /// Called after a delivery was accepted by the check and before its installation.
     fn checked<R: Wait>(&self, rt: &R, lane: u32, turn: u32);
 
-    /// Called directly before a lane asks for an agreement, an installation or an eviction.
+    /// Called directly before a lane asks for an agreement, an installation or an eviction. Where what it
+    /// asks stands in a lock, the lane holds that lock then.
     fn locked<R: Wait>(&self, rt: &R, lane: u32, turn: u32);
 }
 

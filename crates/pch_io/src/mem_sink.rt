@@ -55,6 +55,7 @@ impl Sink for MemSink {
         ensures failed { IsErrOf result PutFail.Failed → Rose self.old.calls.faults self.new.calls.faults }
         ensures unchanged { OnErr result (self.new.bytes ≡ self.old.bytes) }
         ensures failed_exactly { IsErrOf result PutFail.Failed ↔ Contains self.old.calls.failing (next_number self.old.calls) }
+        ensures calm { (Contains self.old.calls.failing (next_number self.old.calls) → ⊥) → self.new.calls.faults ≡ self.old.calls.faults }
         ensures failing { self.new.calls.failing ≡ self.old.calls.failing }
         ensures counted { self.new.calls.made ≡ next_number self.old.calls }
     {

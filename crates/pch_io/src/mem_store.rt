@@ -65,6 +65,7 @@ impl Store for MemStore {
         ensures too_long { IsErrOf result LoadFail.TooLong → TooLongCause (Some (bytes_of self.old.files)) name.now max self.old.calls.faults self.new.calls.faults }
         ensures failed { IsErrOf result LoadFail.Failed → Rose self.old.calls.faults self.new.calls.faults }
         ensures failed_exactly { IsErrOf result LoadFail.Failed ↔ Contains self.old.calls.failing (next_number self.old.calls) }
+        ensures calm { (Contains self.old.calls.failing (next_number self.old.calls) → ⊥) → self.new.calls.faults ≡ self.old.calls.faults }
         ensures failing { self.new.calls.failing ≡ self.old.calls.failing }
         ensures counted { self.new.calls.made ≡ next_number self.old.calls }
     {
@@ -81,6 +82,7 @@ impl Store for MemStore {
         ensures failed { IsErrOf result SaveFail.Failed → Rose self.old.calls.faults self.new.calls.faults }
         ensures unchanged { OnErr result (self.new.files ≡ self.old.files) }
         ensures failed_exactly { IsErrOf result SaveFail.Failed ↔ Contains self.old.calls.failing (next_number self.old.calls) }
+        ensures calm { (Contains self.old.calls.failing (next_number self.old.calls) → ⊥) → self.new.calls.faults ≡ self.old.calls.faults }
         ensures failing { self.new.calls.failing ≡ self.old.calls.failing }
         ensures counted { self.new.calls.made ≡ next_number self.old.calls }
     {

@@ -8,7 +8,7 @@ use Rattle.sat_text_defs.specs.declared.fault.TraceFault.{TraceFault}
 use Rattle.cnf_laws.specs.CnfGrammar.{CnfTextFault}
 use Rattle.pch_io.specs.declared.store.LoadFail.{LoadFail}
 use Rattle.pch_io.specs.Outside.{Files, Loads, Rose}
-use Rattle.pch_shell.specs.Words.{Form, form_of, check}
+use Rattle.pch_shell.specs.Words.{Form, check}
 use Rattle.pch_shell.specs.Lines.{ended}
 use Rattle.pch_shell.specs.Endings.{store_line, FailCause}
 use Rattle.pch_shell.specs.Check.{Shows, Refuted, TraceIsFaulty, Loaded, refused_line, cnf_line, trace_line}
@@ -64,10 +64,6 @@ abbrev pub FormDue : Option Files → ℕ → ℕ → Option Form → Status →
 FormDue told before now None status text = (status ≡ Words) × (text ≡ ended (codes "words"))
 FormDue told before now (Some (check cnf_name trace_name)) status text =
     CheckDue told before now cnf_name trace_name status text
-
--- why these words end with a status, and the text that is due with it
-abbrev pub Due : Option Files → ℕ → ℕ → List (List ℕ) → Status → List ℕ → Type 0
-Due told before now words status text = FormDue told before now (form_of words) status text
 
 -- the yes of `check CNF TRACE`: both files were loaded, and the trace refutes the CNF's clauses
 abbrev pub Verified : Option Files → Option Form → Type 0

@@ -31,8 +31,8 @@ fn ending_of<S: Store>(alloc: Global, words: &[String], store: &mut S) -> Result
 /// Runs the command of these words, and answers its status. It always returns.
 ///
 /// The words are those of the command line without the program's name (`form_of` has the forms). The
-/// text that is due is written by one put. `Ends` says which status comes with which text and why; the
-/// other clauses say the most important of it by themselves.
+/// text that is due is written by one put. `Ends` says which status comes with which text and why, and
+/// what the sink then holds; the other clauses say the most important of it by themselves.
 pub fn command<R: Threads + Sync, S: Store, O: Sink>(
     _rt: &R,
     alloc: Global,
@@ -65,7 +65,7 @@ pub fn command<R: Threads + Sync, S: Store, O: Sink>(
 
 /// Runs the command of these words, and answers its status. It may wait for other threads.
 ///
-/// It is `command` for every form of words that there is; the gate is for sessions.
+/// It is `command` for every form of words that there is; no form passes the gate yet.
 pub fn top<R: Threads + Wait + Sync, S: Store, O: Sink, G: Gate>(
     rt: &R,
     alloc: Global,

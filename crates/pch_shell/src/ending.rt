@@ -12,7 +12,9 @@ use std::alloc::Global;
 /// How a command ends: its status, and the text that is due with it.
 #[derive(Drop)]
 pub struct Ending {
+    /// The status that is due.
     pub status: Status,
+    /// The text that is due with it: nothing, or whole lines.
     pub text: Vec<u8>,
 }
 

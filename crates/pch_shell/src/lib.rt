@@ -11,7 +11,4 @@ mod tests;
 mod words;
 
 pub use commands::{command, top};
-pub use ending::{Ending, finish};
-pub use line::Line;
 pub use status::Status;
-pub use words::{Command, command_of};

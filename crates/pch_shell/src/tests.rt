@@ -29,7 +29,7 @@ fn words(alloc: Global, trace: &str) -> Result<Vec<String>, AllocError> {
 }
 
 #[test]
-fn memory_is_not_always_wanting(rt: HostRuntime) -> Result<(), Fail> {
+fn always_want_of_memory(rt: HostRuntime) -> Result<(), Fail> {
     let alloc = rt.alloc();
     let mut store = store(alloc, Vec::new(alloc))?;
     let mut out = MemSink::new(alloc, Vec::new(alloc));

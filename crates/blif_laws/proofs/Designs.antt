@@ -24,6 +24,7 @@ use Rattle.blif_defs.specs.Grammar.{Statement, statements}
 use Rattle.blif_defs.specs.Texts.{Follows, BlifText}
 use Rattle.blif_laws.proofs.LineLemmas.{split_last}
 use Rattle.blif_laws.proofs.LineWords.{IsRaw, both, HasRawWords, raw-statements}
+use Rattle.blif_laws.proofs.RowSizes.{rows-within_text}
 
 -- what holds of what was read so far
 pub record IsDraft (d : Draft) : Type 0 where
@@ -324,4 +325,5 @@ design_of_text text m t =
       covers = h.covers;
       signals_within = h.signals_within;
       signals_differ = h.signals_differ;
+      rows_within = omega (arith, rows-within_text text t.end t.follows, t.short);
     })

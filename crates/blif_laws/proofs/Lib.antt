@@ -3,6 +3,8 @@ pub mod Joining
 pub mod Following
 pub mod Sets
 pub mod LineWords
+pub mod TextSizes
+pub mod RowSizes
 pub mod Designs
 pub mod LineTexts
 pub mod PrintedWords

@@ -26,16 +26,15 @@ pub fn positive_at(text: &[u8], at: usize, max: u32) -> Option<Number>
     }
     let mut value = u64::from(text[at] - b'0');
     let mut end = at + 1;
-    while end < text.len() && !is_separator(text[end]) {
-        let digit = text[end];
-        if digit < b'0' || digit > b'9' {
-            return None;
-        }
-        value = 10 * value + u64::from(digit - b'0');
+    while end < text.len() && b'0' <= text[end] && text[end] <= b'9' {
+        value = 10 * value + u64::from(text[end] - b'0');
         if value > u64::from(max) {
             return None;
         }
         end += 1;
+    }
+    if end < text.len() && !is_separator(text[end]) {
+        return None;
     }
     Some(Number {
         value: value as u32,

@@ -26,7 +26,7 @@ impl ClauseIndex {
     {
         let len = clauses.len() as usize;
         let mut index = ClauseIndex {
-            latest: vec![in alloc; 0u32; len.next_power_of_two()]?,
+            latest: vec![in alloc; 0u32; (2 * len).next_power_of_two()]?,
             earlier: Vec::with_capacity(alloc, len)?,
         };
         for k in 0..clauses.len() {

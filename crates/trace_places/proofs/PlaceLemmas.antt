@@ -1,11 +1,10 @@
 -- Where an index stands in a list.
-use Rattle.std.proofs.Common.{◌≡◌, ℕ, zero, suc, ◌+◌, ◌<◌, ◌==◌, true, false, if◌then◌else◌, List, [], ◌∷◌, ◌++◌, length, get_or, drop, replicate, Option, Some, None, Ok, Err, ◌⊎◌, refl, sym, ap, ◌∙◌, inl, inr, arith, add-one, subst, nat_cmp, length-append}
+use Rattle.std.proofs.Common.{◌≡◌, ℕ, zero, suc, ◌+◌, ◌<◌, ◌==◌, true, false, if◌then◌else◌, List, [], ◌∷◌, ◌++◌, length, get_or, drop, replicate, Option, Some, None, Ok, Err, ◌⊎◌, refl, sym, ap, ◌∙◌, inl, inr, arith, subst, nat_cmp, length-append}
 use Rattle.std.proofs.lemmas.List.{drop_more}
-use Rattle.std.proofs.lemmas.Bool.{cases_eq, cases_Bool, cases_lt, eq-eqb, ne_eqb, lt-ltb, le-ltb, cond-true, cond-false}
+use Rattle.std.proofs.lemmas.Bool.{cases_Bool, cases_lt, eq-eqb, ne_eqb, lt-ltb, le-ltb}
 use Rattle.std.specs.BTreeMap.{is_at}
 use Rattle.clause_defs.specs.Clauses.{Has}
 use Rattle.sat_text_defs.specs.TraceReading.{place_of, place_from, places_from}
-use Rattle.trace_places.specs.Places.{place_in, either, AreIndexed}
 
 -- one more index is found
 pub places_from-next : (indices ps xs : List ℕ) (i p : ℕ) → i < length xs → place_of indices (get_or xs i 0) ≡ Some p
@@ -13,8 +12,9 @@ pub places_from-next : (indices ps xs : List ℕ) (i p : ℕ) → i < length xs 
 places_from-next indices ps xs i p h e = rw (drop_more xs i 0 h, e) refl
 
 -- one more index at the end
-last_place : ℕ → ℕ → ℕ → Option ℕ
-last_place place x y = if x == y then Some place else None
+abbrev either : Option ℕ → Option ℕ → Option ℕ
+either None place = place
+either (Some place) other = Some place
 
 place_from-push : (k : ℕ) (xs : List ℕ) (x y : ℕ) → place_from k (xs ++ x ∷ []) y ≡ either (place_from k xs y) (if x == y then Some (k + length xs) else None)
 place_from-push k [] x y = ap (λ (n : ℕ). if x == y then Some n else None) (let e : k ≡ k + 0 = omega arith in e)
@@ -35,45 +35,6 @@ place_of-push_other xs x y other = place_from-push 0 xs x y ∙ rw (ne_eqb x y o
 
 -- ---- the table and the map
 
-place_in-one_more : (p : ℕ) → place_in (p + 1) ≡ Some p
-place_in-one_more p = rw (add-one) refl
-
--- the table says the same as before
-pub AreIndexed-same : (indices table new : List ℕ) (others : ℕ → Option ℕ) → ((x : ℕ) → get_or new x 0 ≡ get_or table x 0)
-    → AreIndexed indices table others → AreIndexed indices new others
-AreIndexed-same indices table new others same indexed = record {
-  each = λ y. indexed.each y ∙ sym (ap (λ (n : ℕ). either (place_in n) (others y)) (same y));
-}
-
-put_here : (indices new : List ℕ) (others : ℕ → Option ℕ) (x : ℕ) → place_of indices x ≡ None → get_or new x 0 ≡ length indices + 1
-    → place_of (indices ++ x ∷ []) x ≡ either (place_in (get_or new x 0)) (others x)
-put_here indices new others x none e =
-    place_of-push_same indices x none
-    ∙ sym (ap (λ (p : Option ℕ). either p (others x)) (ap place_in e ∙ place_in-one_more (length indices)))
-
-put_there : (indices table new : List ℕ) (others : ℕ → Option ℕ) (x y : ℕ) → (x ≡ y → ⊥) → get_or new y 0 ≡ get_or table y 0
-    → place_of indices y ≡ either (place_in (get_or table y 0)) (others y)
-    → place_of (indices ++ x ∷ []) y ≡ either (place_in (get_or new y 0)) (others y)
-put_there indices table new others x y other e h =
-    place_of-push_other indices x y other ∙ h ∙ sym (ap (λ (n : ℕ). either (place_in n) (others y)) e)
-
--- one more index, in the table
-pub AreIndexed-put : (indices table new : List ℕ) (others : ℕ → Option ℕ) (x : ℕ) → place_of indices x ≡ None
-    → ((y : ℕ) → get_or new y 0 ≡ (if x == y then (length indices + 1) else get_or table y 0))
-    → AreIndexed indices table others → AreIndexed (indices ++ x ∷ []) new others
-AreIndexed-put indices table new others x none put indexed = record {
-  each = λ y. elim (cases_eq x y) [
-    | inl e ↦ subst (λ (z : ℕ). place_of (indices ++ x ∷ []) z ≡ either (place_in (get_or new z 0)) (others z)) e
-        (put_here indices new others x none (put x ∙ cond-true (x == x) (length indices + 1) (get_or table x 0) (eq-eqb x x refl)))
-    | inr other ↦ put_there indices table new others x y other
-        (put y ∙ cond-false (x == y) (length indices + 1) (get_or table y 0) (ne_eqb x y other)) (indexed.each y)
-  ];
-}
-
-pub either_first : (a b : Option ℕ) → None ≡ either a b → a ≡ None
-either_first None b e = refl
-either_first (Some p) b e = absurd (cc)
-
 pub is_at_same : (x : ℕ) → is_at (nat_cmp x) x ≡ true
 is_at_same x = rw (le-ltb x x (omega arith), eq-eqb x x refl) refl
 
@@ -82,24 +43,6 @@ is_at_other x y other = elim (cases_lt x y) [
   | inl h ↦ rw (lt-ltb x y h) refl
   | inr h ↦ rw (le-ltb x y h, ne_eqb x y other) refl
 ]
-
-pub either_second : (a b : Option ℕ) → None ≡ either a b → b ≡ None
-either_second None b e = sym e
-either_second (Some p) b e = absurd (cc)
-
--- one more index, elsewhere
-pub AreIndexed-more : (indices table : List ℕ) (others new : ℕ → Option ℕ) (x : ℕ) → place_of indices x ≡ None
-    → new x ≡ Some (length indices) → ((y : ℕ) → (x ≡ y → ⊥) → new y ≡ others y)
-    → AreIndexed indices table others → AreIndexed (indices ++ x ∷ []) table new
-AreIndexed-more indices table others new x none here there indexed = record {
-  each = λ y. elim (cases_eq x y) [
-    | inl e ↦ subst (λ (z : ℕ). place_of (indices ++ x ∷ []) z ≡ either (place_in (get_or table z 0)) (new z)) e
-        (place_of-push_same indices x none
-        ∙ sym (ap (λ (a : Option ℕ). either a (new x)) (either_first (place_in (get_or table x 0)) (others x) (sym none ∙ indexed.each x)) ∙ here))
-    | inr other ↦ place_of-push_other indices x y other ∙ indexed.each y
-        ∙ sym (ap (either (place_in (get_or table y 0))) (there y other))
-  ];
-}
 
 get_or-zeros : (k y : ℕ) → get_or {A = ℕ} (replicate k 0) y 0 ≡ 0
 get_or-zeros zero y = refl

@@ -1,25 +1,17 @@
 -- A table, buckets and a map that say where indices stand.
-use Rattle.std.specs.Prelude.{◌≡◌, ℕ, zero, suc, slice_index, List, Option, Some, None}
+use Rattle.std.specs.Prelude.{◌≡◌, ℕ, ◌+◌, ◌<◌, ◌⊎◌, slice_index, get_or, List, length, Option, Some}
 use Rattle.sat_text_defs.specs.TraceReading.{place_of}
-use Rattle.trace_places.specs.Buckets.{spot, AreBuckets}
+use Rattle.trace_places.specs.Buckets.{AreLinked}
 
--- the place that an entry of the table stands for
-abbrev pub place_in : ℕ → Option ℕ
-place_in zero = None
-place_in (suc place) = Some place
+-- one of the three has place k of the indices: the table, the buckets or the map
+abbrev pub IsKnown : List ℕ → List ℕ → List ℕ → (ℕ → Option ℕ) → ℕ → Type 0
+IsKnown indices table earlier others k =
+    (slice_index table (get_or indices k 0) ≡ k + 1) ⊎ ((0 < get_or earlier k 0) ⊎ (others (get_or indices k 0) ≡ Some k))
 
-abbrev pub either : Option ℕ → Option ℕ → Option ℕ
-either None place = place
-either (Some place) other = Some place
-
--- the table and the other places say of each number where it stands among the indices
-pub record AreIndexed (indices table : List ℕ) (others : ℕ → Option ℕ) : Type 0 where
-  pub each : (x : ℕ) → place_of indices x ≡ either (place_in (slice_index table x)) (others x)
-
--- the place in the buckets, or else in the map
-abbrev pub elsewhere : List ℕ → List ℕ → (ℕ → Option ℕ) → ℕ → Option ℕ
-elsewhere keys places others x = either (spot keys places x) (others x)
-
-pub record ArePlaces (indices table keys places latest earlier : List ℕ) (others : ℕ → Option ℕ) : Type 0 where
-  pub buckets : AreBuckets keys places latest earlier
-  pub indexed : AreIndexed indices table (elsewhere keys places others)
+-- the indices are distinct, one of the three has each place, and what they have is so
+pub record ArePlaces (indices table latest earlier : List ℕ) (others : ℕ → Option ℕ) : Type 0 where
+  pub linked : AreLinked indices latest earlier
+  pub distinct : (k : ℕ) → k < length indices → place_of indices (get_or indices k 0) ≡ Some k
+  pub tabled : (x p : ℕ) → slice_index table x ≡ p + 1 → place_of indices x ≡ Some p
+  pub mapped : (x p : ℕ) → others x ≡ Some p → place_of indices x ≡ Some p
+  pub each : (k : ℕ) → k < length indices → IsKnown indices table earlier others k

@@ -1,7 +1,7 @@
 ghost use Rattle.std.specs.Prelude.{◌≡◌, ◌==◌, ℕ, vec_len, slice_index, if◌then◌else◌, ◌+◌, ◌<◌, ◌^◌, ◌∷◌, ◌++◌, [], length, IfOk, OnOk, OnErr, Ok, Err, None, MatchOption};
 ghost use Rattle.sat_text_defs.specs.TraceReading.{place_of, places_from};
 
-use crate::buckets::Buckets;
+use crate::buckets::{Buckets, find, is_full, link};
 use pch_base::NoMemory;
 use std::alloc::Global;
 use std::collections::BTreeMap;
@@ -15,6 +15,7 @@ pub struct Places {
     indices: Vec<u32>,
     table: Vec<u32>,
     table_limit: usize,
+    in_table: usize,
     buckets: Buckets,
     others: BTreeMap<u32, u32>,
 }
@@ -29,7 +30,7 @@ impl Model for Places {
 
     ghost view = { λ p. p.indices.items };
 
-    ghost invariant = { λ p. ArePlaces p.indices.items p.table.items p.buckets.keys.items p.buckets.places.items p.buckets.latest.items p.buckets.earlier.items (get nat_cmp p.others) };
+    ghost invariant = { λ p. ArePlaces p.indices.items p.table.items p.buckets.latest.items p.buckets.earlier.items (get nat_cmp p.others) };
 }
 
 impl Places {
@@ -41,6 +42,7 @@ impl Places {
             indices: Vec::new(alloc),
             table: Vec::new(alloc),
             table_limit,
+            in_table: 0,
             buckets: Buckets::new(alloc),
             others: BTreeMap::new(alloc),
         }
@@ -55,7 +57,12 @@ impl Places {
         if at < self.table.len() && self.table[at] != 0 {
             return Some(self.table[at] - 1);
         }
-        if let Some(place) = self.buckets.get(index) {
+        if let Some(place) = find(
+            &self.indices,
+            &self.buckets.latest,
+            &self.buckets.earlier,
+            index,
+        ) {
             return Some(place);
         }
         self.others.get(&index).copied()
@@ -72,20 +79,34 @@ impl Places {
         }
         let place = self.indices.len() as u32;
         self.indices.reserve(1)?;
-        // A few indices that are small by chance must not make the table long.
-        let limit = self.table_limit.min(4 * self.indices.len() + 65_536);
+        // At most four entries per index, and two where few are small: these mustn't make the table long.
+        let limit = self
+            .indices
+            .len()
+            .saturating_add(self.in_table)
+            .saturating_mul(2)
+            .saturating_add(65_536)
+            .min(self.table_limit);
         if (index as usize) < limit {
             put(&mut self.table, limit, index, place + 1)?;
             self.indices.push_reserved(index);
+            self.in_table = self.in_table.saturating_add(1);
             return Ok(());
         }
-        if self.buckets.is_full(index) {
+        let buckets = &mut self.buckets;
+        if is_full(&self.indices, &buckets.latest, &buckets.earlier, index) {
             self.others.insert(index, place)?;
             self.indices.push_reserved(index);
             return Ok(());
         }
-        self.buckets.add(index, place)?;
+        buckets.make_room(&self.indices)?;
         self.indices.push_reserved(index);
+        link(
+            &self.indices,
+            &mut buckets.latest,
+            &mut buckets.earlier,
+            place as usize,
+        );
         Ok(())
     }
 

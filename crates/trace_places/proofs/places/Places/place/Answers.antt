@@ -1,0 +1,36 @@
+use Rattle.std.proofs.Common.{◌≡◌, ◌≢◌, ℕ, ◌-◌, ◌<◌, List, get_or, length, nat_cmp, sym, ap, ◌∙◌, subst, arith}
+use Rattle.std.proofs.lemmas.List.{get_or_past, get_or_default}
+use Rattle.std.specs.BTreeMap.{get}
+use Rattle.sat_text_defs.specs.TraceReading.{place_of}
+use Rattle.trace_places.proofs.PushLemmas.{entry_of, known_in_map}
+use Rattle.trace_places.proofs.places.Places.place.Goals as goal
+use Rattle.trace_places.proofs.places.Places.place.Goals.{else-at-len-via-then-at-len+else-index-ne0, else-at-len-via-else-at-len}
+
+pub returns-then-index-ne0 : goal.returns-then-index-ne0
+returns-then-index-ne0 c =
+    let len : c.len.result ≡ length c.self.inside.table.items = c.len.ensures ∙ c.self.inside.table.ok.0 in
+    let below = c.if-at-len.true in
+    let lt : c.args.index < length c.self.inside.table.items = omega arith in
+    let seen : c.index.result.now ≡ get_or c.self.inside.table.items c.args.index 0 =
+    c.index.ensures ∙ get_or_default c.self.inside.table.items c.args.index c.index.result.now 0 lt in
+    let read : c.index-then-index-ne0.result.now ≡ get_or c.self.inside.table.items c.args.index 0 =
+    c.index-then-index-ne0.ensures ∙ get_or_default c.self.inside.table.items c.args.index c.index-then-index-ne0.result.now 0 lt in
+    let entry = entry_of (get_or c.self.inside.table.items c.args.index 0) c.index-then-index-ne0.result.now read (λ none. c.if-index-ne0.true (seen ∙ none)) in
+    let found = c.self.invariant.tabled c.args.index (c.index-then-index-ne0.result.now - 1) entry in
+    sym (sym (ap (λ (is : List ℕ). place_of is c.args.index) c.self.view_is) ∙ found)
+
+pub returns : goal.returns
+returns c =
+    let len : c.len.result ≡ length c.self.inside.table.items = c.len.ensures ∙ c.self.inside.table.ok.0 in
+    let no_entry : get_or c.self.inside.table.items c.args.index 0 ≡ 0 = elim c.else-at-len.branch [
+      | else-at-len-via-then-at-len+else-index-ne0 w ↦
+          let below = w.if-at-len.true in
+          sym (get_or_default c.self.inside.table.items c.args.index w.index.result.now 0 (omega arith)) ∙ sym w.index.ensures ∙ w.if-index-ne0.false
+      | else-at-len-via-else-at-len w ↦ let past = w.if-at-len.false in get_or_past c.self.inside.table.items c.args.index 0 (omega arith)
+    ] in
+    let no_link : (k : ℕ) → 0 < get_or c.self.inside.buckets.earlier.items k 0 → get_or c.self.inside.indices.items k 0 ≢ c.args.index =
+    λ k on same. (c.in_default.ensures {u = tt}).none k (subst (λ (es : List ℕ). 0 < get_or es k 0) (sym c.deref-3.ensures.value) on)
+    (ap (λ (is : List ℕ). get_or is k 0) c.deref.ensures.value ∙ same) in
+    let here = known_in_map c.self.inside.indices.items c.self.inside.table.items c.self.inside.buckets.latest.items c.self.inside.buckets.earlier.items
+    (get nat_cmp c.self.inside.others) c.args.index c.self.invariant no_entry no_link in
+    c.copied.ensures ∙ c.get.ensures.value ∙ here ∙ ap (λ (is : List ℕ). place_of is c.args.index) c.self.view_is

@@ -1,9 +1,8 @@
--- Networks whose inputs and outputs pair by their names, and a network whose inputs and outputs are put into
--- the order of another.
-use Rattle.std.specs.Prelude.{◌≡◌, ℕ, ◌<◌, ◌≤◌, ◌⊎◌, List, length, slice_get, slice_index, All, Contains, Some, Result, Ok, Err}
+-- Networks whose inputs and outputs pair by their names.
+use Rattle.std.specs.Prelude.{◌≡◌, ℕ, ◌<◌, List, length, slice_get, slice_index, All, Contains, Some, Result, Ok, Err}
 use Rattle.std.specs.List.{AllZip}
 use Rattle.net_defs.specs.Names.{IsFirstMissing}
-use Rattle.net_defs.specs.Networks.{Node, Output, Network}
+use Rattle.net_defs.specs.Networks.{Network}
 use Rattle.net_defs.specs.Nets.{output_names}
 use Rattle.net_defs.specs.declared.interface.Side.TheVariants.{Spec, Design}
 use Rattle.net_defs.specs.declared.interface.InterfaceError.{InterfaceError}
@@ -54,6 +53,7 @@ GivesInterfaceOf spec design (Err NoMemory) = Unit {0}
 -- the places 0 to n - 1, each once, in some order
 pub record IsRearrangement (n : ℕ) (places : List ℕ) : Type 0 where
   pub as_many : length places ≡ n
+  pub within : All (λ k. k < n) places
   pub distinct : (i j : ℕ) → i < j → j < n → slice_index places i ≡ slice_index places j → ⊥
   pub complete : (k : ℕ) → k < n → Contains places k
 
@@ -61,22 +61,3 @@ pub record IsRearrangement (n : ℕ) (places : List ℕ) : Type 0 where
 pub record Pairs (design : Network) (p : PlacePairs) : Type 0 where
   pub inputs : IsRearrangement (length design.inputs) p.inputs
   pub outputs : IsRearrangement (length design.outputs) p.outputs
-
--- signal s of the design is signal t once the inputs stand in the order of their partners
-abbrev pub IsMoved : Network → List ℕ → ℕ → ℕ → Type 0
-IsMoved design places s t = (slice_get places t ≡ Some s) ⊎ ((length design.inputs ≤ s) × (t ≡ s))
-
-pub record IsMovedNode (design : Network) (places : List ℕ) (node moved : Node) : Type 0 where
-  pub fan_ins : AllZip (IsMoved design places) node.fan_ins moved.fan_ins
-  pub on : moved.on ≡ node.on
-  pub rows : moved.rows ≡ node.rows
-
-pub record IsMovedOutput (design : Network) (places : List ℕ) (output moved : Output) : Type 0 where
-  pub name : moved.name ≡ output.name
-  pub signal : IsMoved design places output.signal moved.signal
-
--- the same nodes, with inputs and outputs in the order of their partners
-pub record IsAligned (design : Network) (p : PlacePairs) (net : Network) : Type 0 where
-  pub inputs : StandAt design.inputs p.inputs net.inputs
-  pub nodes : AllZip (IsMovedNode design p.inputs) design.nodes net.nodes
-  pub outputs : AllZip (λ k moved. (output : Output) × (slice_get design.outputs k ≡ Some output) × IsMovedOutput design p.inputs output moved) p.outputs net.outputs

@@ -5,3 +5,4 @@ pub mod Nets
 pub mod Names
 pub mod NetOf
 pub mod Interfaces
+pub mod Alignments

@@ -1,8 +1,8 @@
 -- What every net keeps: it is within the limits, and the inputs determine each of its nodes.
-use Rattle.std.specs.Prelude.{ℕ, ◌+◌, ◌<◌, ◌≤◌, ◌≡◌, List, length, map, sum_by, All}
+use Rattle.std.specs.Prelude.{ℕ, ◌<◌, ◌≤◌, ◌≡◌, List, length, map, sum_by, All}
 use Rattle.std.specs.List.{IsDistinct}
 use Rattle.std.specs.Str.{bytes_eq}
-use Rattle.blif_defs.specs.declared.mark.Mark.{Mark}
+pub use Rattle.blif_defs.specs.Values.{rows_size}
 use Rattle.blif_defs.specs.declared.mark.TheConstants.{MAX_BYTES, MAX_PORTS, MAX_SIGNALS}
 use Rattle.net_defs.specs.Networks.{Node, Output, Network, signals}
 use Rattle.net_defs.specs.Settling.{IsAcyclic}
@@ -10,10 +10,6 @@ use Rattle.net_defs.specs.Settling.{IsAcyclic}
 -- the rows of all nodes
 abbrev pub row_count : Network → ℕ
 row_count net = sum_by (λ (node : Node). length node.rows) net.nodes
-
--- the marks of rows, and two more for each row
-abbrev pub rows_size : List (List Mark) → ℕ
-rows_size rows = sum_by (λ row. length row + 2) rows
 
 abbrev pub output_names : Network → List (List ℕ)
 output_names net = map (λ (o : Output). o.name) net.outputs

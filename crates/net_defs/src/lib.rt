@@ -3,7 +3,8 @@
 //! `specs/Networks` has the plain record of a network, `specs/Settling` the nodes that the inputs
 //! determine, and `specs/Evaluation` the bits of the signals and of the outputs. No order of
 //! evaluation is named. `specs/Nets` says what every net keeps, and `specs/NetOf` what network a
-//! BLIF design describes, or its first fault; `specs/Interfaces` which nets pair by their names.
+//! BLIF design describes, or its first fault; `specs/Interfaces` which nets pair by their names, and
+//! `specs/Alignments` what a net is with its inputs and outputs in the order of another.
 #![tactic(auto)]
 
 mod faults;

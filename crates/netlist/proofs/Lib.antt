@@ -8,4 +8,5 @@ pub mod ZipLemmas
 pub mod BuildLemmas
 pub mod NetworkLemmas
 pub mod RowLemmas
-pub mod CoverLemmas
+pub mod MoveLemmas
+pub mod PartnerLemmas

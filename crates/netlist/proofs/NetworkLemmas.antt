@@ -8,15 +8,15 @@ use Rattle.std.proofs.lemmas.Map.Keys.{apart_from_distinct, IsDistinct-from_apar
 use Rattle.std.proofs.lemmas.Bool.{cases_lt}
 use Rattle.std.specs.List.{AllZip, IsDistinct}
 use Rattle.std.specs.Str.{bytes_eq}
-use Rattle.blif_defs.specs.Values.{CoverValue, BlifValue, IsCover, IsBlif}
+use Rattle.blif_defs.specs.Values.{CoverValue, BlifValue, IsCover, IsBlif, rows_size}
 use Rattle.blif_defs.specs.declared.mark.TheConstants.{MAX_SIGNALS}
 use Rattle.net_defs.specs.Networks.{Node, Output, Network, no_node, node_at, signals}
 use Rattle.net_defs.specs.Settling.{IsAcyclic}
-use Rattle.net_defs.specs.Nets.{IsNode, IsNet, rows_size}
+use Rattle.net_defs.specs.Nets.{IsNode, IsNet}
 use Rattle.net_defs.specs.NetOf.{signal_names, no_cover, IsNameOf, IsNodeOf, IsOutputOf, IsNetworkOf}
 use Rattle.net_defs.specs.declared.faults.NetError.{NetError}
 use Rattle.net_defs.specs.declared.faults.NetError.TheVariants.{UndrivenPin, UndrivenOutput, Cycle, NoMemory}
-use Rattle.netlist.specs.Resolving.{GivesNodes, GivesOutputs, GivesParts, HasRowsWithin}
+use Rattle.netlist.specs.Resolving.{GivesNodes, GivesOutputs, GivesParts}
 use Rattle.netlist.specs.Sortings.{HasFanInsWithin, HasShortNodes}
 use Rattle.netlist.proofs.IndexLemmas.{length-signals_of}
 use Rattle.netlist.proofs.ZipLemmas.{all_zip-at, all_zip-length, all_zip-right}
@@ -103,8 +103,8 @@ same_size b (c ∷ cs) (n ∷ ns) h =
     omega (arith, e, f, g, r)
 
 -- an acyclic network of a design that was read is a net
-pub IsNet-built : (b : BlifValue) (net : Network) → IsNetworkOf b net → IsBlif b → HasRowsWithin b → IsAcyclic net → IsNet net
-IsNet-built b net h is rows acyclic =
+pub IsNet-built : (b : BlifValue) (net : Network) → IsNetworkOf b net → IsBlif b → IsAcyclic net → IsNet net
+IsNet-built b net h is acyclic =
     let inputs_size : length net.inputs ≡ length b.inputs = ap length h.inputs in
     let outputs_size : length net.outputs ≡ length b.outputs = all_zip-length (IsOutputOf b) b.outputs net.outputs h.outputs in
     let nodes_size : length net.nodes ≡ length b.covers = all_zip-length (IsNodeOf b) b.covers net.nodes h.nodes in
@@ -119,7 +119,7 @@ IsNet-built b net h is rows acyclic =
           (λ name o at. named_within b net name o.signal h at.signal) h.outputs [];
       signals_within = omega (arith, inputs_size, nodes_size, is.signals_within);
       nodes = all_nodes b net h is;
-      rows_within = omega (arith, same_size b b.covers net.nodes h.nodes, rows);
+      rows_within = omega (arith, same_size b b.covers net.nodes h.nodes, is.rows_within);
       acyclic = acyclic;
     }
 

@@ -4,7 +4,8 @@ use Rattle.std.proofs.lemmas.List.Sums.{sum_by-cons, sum_by_more, sum_by-take-le
 use Rattle.blif_defs.specs.declared.mark.Mark.{Mark}
 use Rattle.blif_defs.specs.declared.mark.TheConstants.{MAX_BYTES}
 use Rattle.net_defs.specs.Networks.{Node, Network}
-use Rattle.net_defs.specs.Nets.{IsNet, rows_size}
+use Rattle.blif_defs.specs.Values.{rows_size}
+use Rattle.net_defs.specs.Nets.{IsNet}
 
 length-le-rows_size : (rows : List (List Mark)) → length rows ≤ rows_size rows
 length-le-rows_size [] = omega arith

@@ -4,3 +4,5 @@ pub mod Searches
 pub mod Places
 pub mod Index
 pub mod Resolving
+pub mod Partners
+pub mod Moves

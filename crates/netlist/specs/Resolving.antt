@@ -1,12 +1,10 @@
 -- What the steps of `build` answer: parts of a network, or the fault that keeps them from being made.
-use Rattle.std.specs.Prelude.{◌≡◌, ℕ, List, All, Result, Ok, Err, Vec, ◌≤◌, sum_by}
+use Rattle.std.specs.Prelude.{◌≡◌, ℕ, List, All, Result, Ok, Err, Vec}
 use Rattle.std.specs.List.{AllZip}
 use Rattle.std.specs.declared.alloc.Global.{Global}
 use Rattle.blif_defs.specs.Values.{CoverValue, BlifValue}
 use Rattle.net_defs.specs.Names.{IsFirstMissing}
-use Rattle.blif_defs.specs.declared.mark.TheConstants.{MAX_BYTES}
 use Rattle.net_defs.specs.Networks.{Node, Output, Network}
-use Rattle.net_defs.specs.Nets.{rows_size}
 use Rattle.net_defs.specs.NetOf.{signal_names, HasDrivenPins, IsNameOf, IsNodeOf, IsOutputOf, IsNetworkOf, IsFirstUndrivenPin}
 use Rattle.net_defs.specs.declared.faults.NetError.{NetError}
 use Rattle.net_defs.specs.declared.faults.NetError.TheVariants.{UndrivenPin, UndrivenOutput, Cycle, NoMemory}
@@ -50,7 +48,3 @@ GivesParts b (Err (UndrivenPin node pin)) = IsFirstUndrivenPin b node pin
 GivesParts b (Err (UndrivenOutput place)) = All (HasDrivenPins b) b.covers × IsFirstMissing (signal_names b) b.outputs place
 GivesParts b (Err (Cycle _)) = ⊥
 GivesParts b (Err NoMemory) = Unit {0}
-
--- the marks of all rows and twice their number are within the limit
-abbrev pub HasRowsWithin : BlifValue → Type 0
-HasRowsWithin b = sum_by (λ (c : CoverValue). rows_size c.rows) b.covers ≤ MAX_BYTES

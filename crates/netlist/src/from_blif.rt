@@ -1,11 +1,11 @@
 ghost use Rattle.std.specs.Prelude.{◌≡◌, ℕ, ◌+◌, ◌≤◌, List, length, map, slice_index_or, All, IfOk, IfErr};
 ghost use Rattle.blif_read.specs.declared.cover.Cover.{Cover};
 ghost use Rattle.blif_defs.specs.Values.{BlifValue, IsBlif};
-ghost use Rattle.blif_defs.specs.declared.mark.TheConstants.{MAX_PORTS, MAX_SIGNALS, MAX_BYTES};
+ghost use Rattle.blif_defs.specs.declared.mark.TheConstants.{MAX_PORTS, MAX_SIGNALS};
 ghost use Rattle.blif_read.specs.Views.{blif_of, cover_of};
 ghost use Rattle.net_defs.specs.NetOf.{signal_names, GivesNetOf};
 ghost use Rattle.netlist.specs.Index.{IsIndexOf};
-ghost use Rattle.netlist.specs.Resolving.{GivesFanIns, GivesNode, GivesNodes, GivesOutputs, GivesParts, HasRowsWithin};
+ghost use Rattle.netlist.specs.Resolving.{GivesFanIns, GivesNode, GivesNodes, GivesOutputs, GivesParts};
 ghost use Rattle.net_defs.specs.declared.faults.NetError.TheVariants.{NoMemory};
 
 use crate::index::NameIndex;
@@ -185,10 +185,9 @@ fn parts_of(alloc: Global, index: &NameIndex<'_>, b: &Blif) -> Result<Parts, Net
     })
 }
 
-/// The net of a design that was read, or its first fault.
+/// The net of a design within the limits, as `read_blif` gives it, or the design's first fault.
 pub fn build(alloc: Global, b: &Blif) -> Result<Net, NetError>
-    requires value { IsBlif (blif_of b.now) }
-    requires rows { HasRowsWithin (blif_of b.now) }
+    requires { IsBlif (blif_of b.now) }
     ensures { GivesNetOf (blif_of b.now) result }
 {
     let index = index_signals(alloc, b)?;

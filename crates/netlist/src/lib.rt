@@ -1,24 +1,33 @@
-//! Nets: acyclic networks that are built from BLIF designs, evaluated and compared.
+//! Nets: acyclic networks that are built from BLIF designs, evaluated, paired and compared.
 //!
-//! A `Net` is made by `build` alone and never changed. `net_defs` says what networks are and what
-//! they compute; here are the order in which the nodes of a net are evaluated (`specs/Orders`), the
-//! search that finds it (`specs/Sortings`), and the look-up of names (`specs/Index`).
+//! A `Net` is made by `build`, or by `aligned` from another, and never changed. `net_defs` says what
+//! networks are, what they compute and how they pair, and `net_laws` what follows; here are the order
+//! in which the nodes of a net are evaluated (`specs/Orders`), the search that finds it
+//! (`specs/Sortings`), the look-up of names (`specs/Index`), the partners of names
+//! (`specs/Partners`) and where signals come to as inputs move (`specs/Moves`).
 #![tactic(auto)]
 
+mod aligned;
 mod equality;
 mod eval;
 mod from_blif;
 mod index;
+mod moves;
 mod net;
 mod order;
+mod pairing;
 mod parts;
+mod ports;
 mod scratch;
 
 pub use equality::same;
 pub use from_blif::build;
 pub use net::Net;
-pub use net_defs::NetError;
+pub use net_defs::{InterfaceError, NetError, Side};
+pub use pairing::{Pairing, same_interface};
 pub use scratch::Scratch;
 
+#[cfg(test)]
+mod pairing_tests;
 #[cfg(test)]
 mod tests;

@@ -1,12 +1,10 @@
-ghost use Rattle.std.specs.Prelude.{◌≡◌, ◌-◌, ◌^◌, ◌<◌, ◌≤◌, true, length};
+ghost use Rattle.std.specs.Prelude.{◌≡◌, ◌≤◌, length};
 ghost use Rattle.net_defs.specs.Networks.{signals};
-ghost use Rattle.blif_read.specs.Views.{blif_of};
-ghost use Rattle.net_defs.specs.Nets.{rows_size};
-ghost use Rattle.netlist.specs.Resolving.{HasRowsWithin};
+
+mod plain;
 
 use crate::{Net, NetError, Scratch, build, same};
-use blif_defs::MAX_BYTES;
-use blif_read::{Blif, Row, read_blif};
+use blif_read::read_blif;
 use pch_base::Bits;
 use std::alloc::Global;
 use std::process::Abort;
@@ -34,32 +32,53 @@ const FULL_ADDER: &[u8] = b"# one-bit full adder
 .end
 ";
 
-/// The marks of the rows and twice their number, where that is less than the greatest number.
-fn size_of_rows(rows: &[Row]) -> usize
-    ensures { result < 2 ^ 64 - 1 → result ≡ rows_size rows.now }
-{
-    let mut size: usize = 0;
-    for row in rows {
-        size = size.saturating_add(row.marks().len()).saturating_add(2);
-    }
-    size
-}
+/// An off-set cover, a constant 0, a constant 1 and an input, as outputs.
+const FOUR_OUTPUTS: &[u8] =
+    b".inputs a b\n.outputs y z k a\n.names a b y\n11 0\n.names k\n1\n.names z\n.end\n";
 
-/// Whether the marks of all rows and twice their number are within the limit.
-fn has_rows_within(b: &Blif) -> bool
-    ensures { result ≡ true → HasRowsWithin (blif_of b.now) }
-{
-    let covers = b.covers.as_slice();
-    let mut size: usize = 0;
-    for cover in covers {
-        size = size.saturating_add(size_of_rows(cover.rows.as_slice()));
-    }
-    size <= MAX_BYTES
-}
+/// Each node stands before those that it needs.
+const OUT_OF_ORDER: &[u8] = b".inputs a b c
+.outputs y u
+.names u v y
+10 1
+01 1
+.names c u v
+1- 1
+-1 1
+.names a b u
+11 1
+.end
+";
 
-fn net_of(rt: &impl Abort, alloc: Global, text: &[u8]) -> Result<Result<Net, NetError>, Fail> {
+/// A name that stands twice among a cover's inputs: a row that asks for both of its values is never
+/// hit.
+const REPEATED_FAN_IN: &[u8] = b".inputs a
+.outputs y z n
+.names a a y
+10 1
+.names a a z
+11 1
+.names a a n
+11 0
+01 0
+.end
+";
+
+/// Covers that say where their output is 0.
+const OFF_SETS: &[u8] = b".inputs a b c
+.outputs y z
+.names a b c y
+1-0 0
+01- 0
+.names y c z
+11 0
+00 0
+.end
+";
+
+/// The net of a text, or its first fault. What is read is built without any further condition.
+fn net_of(alloc: Global, text: &[u8]) -> Result<Result<Net, NetError>, Fail> {
     let b = read_blif(alloc, text)?;
-    assert!(rt; has_rows_within(&b));
     Ok(build(alloc, &b))
 }
 
@@ -75,7 +94,7 @@ fn outputs_at(rt: &impl Abort, net: &Net, s: &mut Scratch, x: Bits) -> u64
 #[test]
 fn a_full_adder_adds(rt: HostRuntime) -> Result<(), Fail> {
     let alloc = rt.alloc();
-    let net = net_of(&rt, alloc, FULL_ADDER)??;
+    let net = net_of(alloc, FULL_ADDER)??;
     let mut s = Scratch::new(alloc, &net)?;
     for word in 0..8u64 {
         let sum = outputs_at(&rt, &net, &mut s, Bits::new(word, 3));
@@ -87,8 +106,7 @@ fn a_full_adder_adds(rt: HostRuntime) -> Result<(), Fail> {
 #[test]
 fn constants_and_inputs_are_outputs(rt: HostRuntime) -> Result<(), Fail> {
     let alloc = rt.alloc();
-    let text = b".inputs a b\n.outputs y z k a\n.names a b y\n11 0\n.names k\n1\n.names z\n.end\n";
-    let net = net_of(&rt, alloc, text)??;
+    let net = net_of(alloc, FOUR_OUTPUTS)??;
     assert_eq!(rt; net.inputs(), 2);
     assert_eq!(rt; net.outputs(), 4);
     assert_eq!(rt; net.nodes(), 3);
@@ -126,7 +144,7 @@ fn faults_are_the_first(rt: HostRuntime) -> Result<(), Fail> {
         ),
     ];
     for (text, want) in cases {
-        match net_of(&rt, alloc, text)? {
+        match net_of(alloc, text)? {
             Ok(_) => assert!(rt; false),
             Err(error) => assert_eq!(rt; error, want),
         }
@@ -137,8 +155,8 @@ fn faults_are_the_first(rt: HostRuntime) -> Result<(), Fail> {
 #[test]
 fn nets_are_shared_by_threads(rt: HostRuntime) -> Result<(), Fail> {
     let alloc = rt.alloc();
-    let net = net_of(&rt, alloc, FULL_ADDER)??;
-    let other = net_of(&rt, alloc, b".outputs y\n.names y\n1\n.end\n")??;
+    let net = net_of(alloc, FULL_ADDER)??;
+    let other = net_of(alloc, b".outputs y\n.names y\n1\n.end\n")??;
     assert!(rt; same(&net, &net));
     assert!(rt; !same(&net, &other));
     let (nodes, rows) = thread::join(&rt, || net.nodes(), || net.rows());
@@ -159,10 +177,87 @@ fn a_chain_in_reverse_order_is_evaluated(rt: HostRuntime) -> Result<(), Fail> {
         text.push_str(format!(in alloc; ".names n{} n{}\n0 1\n", i + 1, i)?.as_str())?;
     }
     text.push_str(".names a n3999\n0 1\n.end\n")?;
-    let net = net_of(&rt, alloc, text.as_bytes())??;
+    let net = net_of(alloc, text.as_bytes())??;
     assert_eq!(rt; net.nodes(), 4_000);
     let mut s = Scratch::new(alloc, &net)?;
     assert_eq!(rt; outputs_at(&rt, &net, &mut s, Bits::new(0, 1)), 0);
     assert_eq!(rt; outputs_at(&rt, &net, &mut s, Bits::new(1, 1)), 1);
+    Ok(())
+}
+
+/// Compares `eval` with the plain evaluation at all inputs.
+fn compare(rt: &impl Abort, alloc: Global, text: &[u8]) -> Result<(), Fail> {
+    let net = net_of(alloc, text)??;
+    let inputs = net.inputs();
+    assert!(rt; inputs <= 3);
+    let mut s = Scratch::new(alloc, &net)?;
+    for word in 0..1u64 << inputs {
+        let found = outputs_at(rt, &net, &mut s, Bits::new(word, inputs));
+        assert_eq!(rt; found, plain::eval(alloc, &net, word)?, "at {word}");
+    }
+    Ok(())
+}
+
+#[test]
+fn eval_agrees_with_a_plain_evaluation(rt: HostRuntime) -> Result<(), Fail> {
+    let alloc = rt.alloc();
+    let texts = [
+        FULL_ADDER,
+        FOUR_OUTPUTS,
+        OUT_OF_ORDER,
+        REPEATED_FAN_IN,
+        OFF_SETS,
+    ];
+    for text in texts {
+        compare(&rt, alloc, text)?;
+    }
+    Ok(())
+}
+
+/// No value of `a` is both 1 and 0.
+#[test]
+fn a_fan_in_may_stand_twice(rt: HostRuntime) -> Result<(), Fail> {
+    let alloc = rt.alloc();
+    let net = net_of(alloc, REPEATED_FAN_IN)??;
+    assert_eq!(rt; net.nodes(), 3);
+    assert_eq!(rt; net.fan_ins(0), [0, 0].as_slice());
+    let mut s = Scratch::new(alloc, &net)?;
+    assert_eq!(rt; outputs_at(&rt, &net, &mut s, Bits::new(0, 1)), 0b100);
+    assert_eq!(rt; outputs_at(&rt, &net, &mut s, Bits::new(1, 1)), 0b010);
+    Ok(())
+}
+
+/// The one row asks for 1 at the inputs with an even number and for 0 at the others.
+#[test]
+fn a_cover_has_sixty_four_inputs(rt: HostRuntime) -> Result<(), Fail> {
+    let alloc = rt.alloc();
+    let mut names = String::new(alloc);
+    let mut row = String::new(alloc);
+    for i in 0..32u32 {
+        names.push_str(format!(in alloc; " a{} b{}", i, i)?.as_str())?;
+        row.push_str("10")?;
+    }
+    let text = format!(in alloc;
+        ".inputs{}\n.outputs y\n.names{} y\n{} 1\n",
+        names, names, row
+    )?;
+    let net = net_of(alloc, text.as_bytes())??;
+    assert_eq!(rt; net.inputs(), 64);
+    let mut s = Scratch::new(alloc, &net)?;
+    let hit: u64 = 0x5555_5555_5555_5555;
+    for (word, want) in [
+        (hit, 1),
+        (!hit, 0),
+        (hit ^ 1, 0),
+        (hit ^ 1 << 63, 0),
+        (u64::MAX, 0),
+        (0, 0),
+    ] {
+        assert_eq!(rt;
+            outputs_at(&rt, &net, &mut s, Bits::new(word, 64)),
+            want,
+            "at {word}"
+        );
+    }
     Ok(())
 }

@@ -1,0 +1,5 @@
+pub mod PlaceLemmas
+pub mod PairingLemmas
+pub mod AlignLemmas
+pub mod NetLemmas
+pub mod ReorderLemmas

@@ -1,0 +1,8 @@
+use Rattle.net_laws.proofs.AlignLemmas.{inputs-aligned, output_names-aligned}
+use Rattle.net_laws.proofs.aligning.aligned_network_has_the_interface.Goals as goal
+
+pub returns-clause-inputs : goal.returns-clause-inputs
+returns-clause-inputs c = inputs-aligned
+
+pub returns-clause-outputs : goal.returns-clause-outputs
+returns-clause-outputs c = output_names-aligned

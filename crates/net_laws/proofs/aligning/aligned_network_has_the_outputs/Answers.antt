@@ -1,0 +1,5 @@
+use Rattle.net_laws.proofs.AlignLemmas.{HasOutputsOf-aligned}
+use Rattle.net_laws.proofs.aligning.aligned_network_has_the_outputs.Goals as goal
+
+pub returns : goal.returns
+returns c = HasOutputsOf-aligned

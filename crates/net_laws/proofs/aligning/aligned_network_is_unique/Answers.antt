@@ -1,0 +1,5 @@
+use Rattle.net_laws.proofs.AlignLemmas.{IsAligned-unique}
+use Rattle.net_laws.proofs.aligning.aligned_network_is_unique.Goals as goal
+
+pub returns : goal.returns
+returns c = IsAligned-unique

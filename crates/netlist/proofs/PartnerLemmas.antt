@@ -1,0 +1,44 @@
+-- The partners of names, one name at a time, and then those of two nets.
+use Rattle.std.proofs.Common.{◌≡◌, ℕ, ◌+◌, List, [], ◌∷◌, ◌++◌, take, All, Contains, Some, Err, slice_get, sym, ap, subst, ◌∙◌}
+use Rattle.std.proofs.lemmas.List.{take_more}
+use Rattle.std.proofs.lemmas.Option.{slice_get_within, get_or_from_slice_get}
+use Rattle.net_defs.specs.Networks.{Network}
+use Rattle.net_defs.specs.Interfaces.{StandAt, HaveTheSameNames, GivesInterfaceOf}
+use Rattle.net_defs.specs.declared.interface.Side.TheVariants.{Spec, Design}
+use Rattle.net_defs.specs.declared.interface.InterfaceError.{InterfaceError}
+use Rattle.net_defs.specs.declared.interface.InterfaceError.TheVariants.{Input, Output as OutputError, NoMemory as NoMemoryError}
+use Rattle.netlist.specs.Partners.{GivesPlaces, GivesPartners, GivesInputs, GivesOutputs}
+use Rattle.netlist.specs.declared.ports.Unpaired.{Unpaired}
+use Rattle.netlist.specs.declared.ports.Unpaired.TheVariants.{Missing, NoMemory}
+use Rattle.netlist.proofs.ZipLemmas.{all_zip-push}
+
+-- one more name that was found
+pub StandAt-more : (names wanted : List (List ℕ)) (places : List ℕ) (i place : ℕ) (q : List ℕ) → slice_get wanted i ≡ Some q
+    → StandAt names places (take i wanted) → slice_get names place ≡ Some q → StandAt names (places ++ place ∷ []) (take (i + 1) wanted)
+StandAt-more names wanted places i place q at h found =
+    let P : List (List ℕ) → Type 0 = λ l. StandAt names (places ++ place ∷ []) l in
+    let last : take (i + 1) wanted ≡ take i wanted ++ q ∷ [] =
+    take_more wanted i [] (slice_get_within wanted i q at) ∙ ap (λ x. take i wanted ++ x ∷ []) (get_or_from_slice_get wanted i q [] at) in
+    subst P (sym last) (all_zip-push (λ p x. slice_get names p ≡ Some x) places (take i wanted) place q h found)
+
+-- the fault of the way back stands after the way there
+pub GivesPartners-back : (spec design : List (List ℕ)) (e : Unpaired) → All (Contains design) spec → GivesPlaces spec design Design (Err e)
+    → GivesPartners spec design (Err e)
+GivesPartners-back spec design (Missing Spec place) all h = let other = h.0 in absurd cc
+GivesPartners-back spec design (Missing Design place) all h = (all, h.1)
+GivesPartners-back spec design NoMemory all h = tt
+
+-- the fault of the inputs is the answer
+pub GivesInterfaceOf-inputs : (spec design : Network) (e : InterfaceError) → GivesInputs spec design (Err e) → GivesInterfaceOf spec design (Err e)
+GivesInterfaceOf-inputs spec design (Input Spec place) h = h
+GivesInterfaceOf-inputs spec design (Input Design place) h = h
+GivesInterfaceOf-inputs spec design (OutputError side place) h = absurd h
+GivesInterfaceOf-inputs spec design NoMemoryError h = tt
+
+-- and after them that of the outputs
+pub GivesInterfaceOf-outputs : (spec design : Network) (e : InterfaceError) → HaveTheSameNames spec.inputs design.inputs → GivesOutputs spec design (Err e)
+    → GivesInterfaceOf spec design (Err e)
+GivesInterfaceOf-outputs spec design (Input side place) same h = absurd h
+GivesInterfaceOf-outputs spec design (OutputError Spec place) same h = (same, h)
+GivesInterfaceOf-outputs spec design (OutputError Design place) same h = (same, h.0, h.1)
+GivesInterfaceOf-outputs spec design NoMemoryError same h = tt

@@ -1,0 +1,15 @@
+use Rattle.fabric_laws.proofs.LimitLemmas.{track_word-le}
+use Rattle.fabric_laws.proofs.WiringLemmas.{wiring, wiring_is_wired}
+use Rattle.fabric.proofs.evaluation.eval.Goals as goal
+
+pub returns-clause-outputs : goal.returns-clause-outputs
+returns-clause-outputs c =
+    let k = c.args.k.now in
+    let wired = wiring_is_wired k c.args.x (λ column t lt within. track_word-le k column t c.known.ensures lt within) in
+    (wiring k c.args.x, wired, c.sweep.ensures.outputs _ wired)
+
+pub returns-clause-cells : goal.returns-clause-cells
+returns-clause-cells c = λ n lt.
+    let k = c.args.k.now in
+    let wired = wiring_is_wired k c.args.x (λ column t lt within. track_word-le k column t c.known.ensures lt within) in
+    (wiring k c.args.x, wired, c.sweep.ensures.cells _ wired n lt)

@@ -1,0 +1,10 @@
+use Rattle.std.proofs.Common.{◌≡◌, ℕ, ◌+◌, ◌*◌, List, length}
+use Rattle.fabric.specs.Evaluation.{HasChannel, HasCells}
+use Rattle.fabric.proofs.evaluation.put_cells.Given as goal
+
+abbrev pub invariant-loop-row : goal.invariant-loop-row
+invariant-loop-row l = record {
+  places : length l.cells ≡ length l.fn.cells;
+  done : (x : List ℕ) → HasChannel l.k x l.column l.tracks → HasCells l.k x (l.column * l.k.geometry.rows) l.fn.cells
+      → HasCells l.k x (l.column * l.k.geometry.rows + l.row) l.cells;
+}

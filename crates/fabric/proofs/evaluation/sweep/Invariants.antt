@@ -1,0 +1,11 @@
+use Rattle.std.proofs.Common.{◌≡◌, ◌*◌, length}
+use Rattle.fabric.specs.Evaluation.{HasChannel, HasCells}
+use Rattle.fabric.proofs.evaluation.sweep.Given as goal
+
+abbrev pub invariant-loop-column : goal.invariant-loop-column
+invariant-loop-column l = record {
+  tracks : length l.tracks ≡ length l.fn.tracks;
+  places : length l.cells ≡ length l.fn.cells;
+  channel : HasChannel l.k l.fn.x l.column l.tracks;
+  cells : HasCells l.k l.fn.x (l.column * l.k.geometry.rows) l.cells;
+}

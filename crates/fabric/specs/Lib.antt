@@ -1,0 +1,5 @@
+pub mod Geometry
+pub mod Ranges
+pub mod BitArrays
+pub mod Wires
+pub mod Evaluation

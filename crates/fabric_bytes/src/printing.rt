@@ -1,0 +1,24 @@
+ghost use Rattle.std.specs.Prelude.{◌≡◌, length, IfOk, Ok};
+ghost use Rattle.fabric_defs.specs.Configurations.{ConfigOf};
+ghost use Rattle.fabric_defs.specs.Spelling.{words_in, bytes_of};
+
+use byteorder::{BigEndian, ByteOrder};
+use fabric::Config;
+use pch_base::NoMemory;
+use std::alloc::Global;
+
+/// The bytes of the words of a configuration.
+pub fn print_config(alloc: Global, k: &Config) -> Result<Vec<u8>, NoMemory>
+    ensures bytes { IfOk result (λ b. b.items ≡ bytes_of k.now.words) }
+    ensures read_again { IfOk result (λ b. ConfigOf k.now.geometry (length b.items) (words_in b.items) (Ok k.now)) }
+{
+    k.known();
+    let words = k.words();
+    let mut bytes = Vec::with_capacity(alloc, 2 * words.len())?;
+    for word in words {
+        let mut pair = [0; 2];
+        BigEndian::write_u16(&mut pair, *word);
+        bytes.extend_from_slice(&pair)?;
+    }
+    Ok(bytes)
+}

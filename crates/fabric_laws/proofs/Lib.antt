@@ -1,0 +1,4 @@
+pub mod NumberedLemmas
+pub mod WiringLemmas
+pub mod LimitLemmas
+pub mod BitLemmas

@@ -1,0 +1,4 @@
+pub mod Cells
+pub mod Sources
+pub mod Cones
+pub mod Evaluation

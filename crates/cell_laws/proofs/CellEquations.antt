@@ -1,0 +1,92 @@
+-- The equations of cells have one solution, since cells listen to lower numbers only.
+use Rattle.std.proofs.Common.{◌≡◌, ℕ, zero, suc, ◌<◌, List, [], ◌∷◌, ◌++◌, length, map, get_or, refl, ap, subst, sym, ◌∙◌, ⊎_elim, arith}
+use Rattle.std.proofs.lemmas.List.{get_or_append_left, get_or_push, length_push, ext_get_or}
+use Rattle.std.proofs.lemmas.Bool.{cases_lt}
+use Rattle.clause_defs.specs.Clauses.{Has}
+use Rattle.fabric_defs.specs.Wirings.{table_bit}
+use Rattle.cell_defs.specs.declared.source.Source.TheVariants.{Cell}
+use Rattle.cell_defs.specs.Cells.{CellsValue, cell_at, IsSourceBelow, AreCells}
+use Rattle.cell_defs.specs.Evaluation.{source_bit, IsCellBit, CellBits}
+use Rattle.cell_laws.proofs.SourceBits.{All-Has, source_bits-same}
+
+-- a set of cells that has those to which its members listen
+abbrev pub IsClosedUnder : CellsValue → (ℕ → Type 0) → Type 0
+IsClosedUnder l P = (m k : ℕ) → m < length l.cells → P m → Has (cell_at l m).pins (Cell k) → P k
+
+-- cells listen to lower numbers
+pub listens_below : (l : CellsValue) (m k : ℕ) → AreCells l → m < length l.cells → Has (cell_at l m).pins (Cell k) → k < m
+listens_below l m k h lt has =
+    All-Has (IsSourceBelow l.geometry m) (cell_at l m).pins (Cell k) (h.cells m (omega (arith, h.count))).sources has
+
+-- lists of bits that obey the equations of such a set agree in it
+pub equations-agree : (l : CellsValue) (x a b : List ℕ) (P : ℕ → Type 0) → AreCells l → IsClosedUnder l P
+    → ((k : ℕ) → k < length l.cells → P k → IsCellBit l x a k)
+    → ((k : ℕ) → k < length l.cells → P k → IsCellBit l x b k)
+    → (n k : ℕ) → k < n → k < length l.cells → P k → get_or a k 0 ≡ get_or b k 0
+equations-agree l x a b P h closed p q zero k below lt member = absurd (omega arith)
+equations-agree l x a b P h closed p q (suc n) k below lt member =
+    p k lt member
+    ∙ ap (table_bit (cell_at l k).table)
+    (source_bits-same x a b (cell_at l k).pins
+    (λ j has. let lower : j < k = listens_below l k j h lt has in
+    equations-agree l x a b P h closed p q n j (omega arith) (omega arith) (closed k j lt member has)))
+    ∙ sym (q k lt member)
+
+-- so there is at most one solution
+pub bits-unique : (l : CellsValue) (x a b : List ℕ) → AreCells l → CellBits l x a → CellBits l x b → a ≡ b
+bits-unique l x a b h p q =
+    ext_get_or 0 a b (p.count ∙ sym q.count)
+    (λ k lt. let within : k < length l.cells = omega (arith, p.count) in
+    equations-agree l x a b (λ _. Unit {0}) h (λ _ _ _ _ _. tt) (λ j less _. p.each j less) (λ j less _. q.each j less)
+    (length l.cells) k within within tt)
+
+-- the bits of the first n cells, each from those before it
+bits_below : CellsValue → List ℕ → ℕ → List ℕ
+bits_below l x zero = []
+bits_below l x (suc n) =
+    bits_below l x n ++ table_bit (cell_at l n).table (map (source_bit x (bits_below l x n)) (cell_at l n).pins) ∷ []
+
+-- there are n of them
+length-bits_below : (l : CellsValue) (x : List ℕ) (n : ℕ) → length (bits_below l x n) ≡ n
+unfolding bits_below
+length-bits_below l x zero = refl
+length-bits_below l x (suc n) = length_push (bits_below l x n) _ ∙ omega (arith, length-bits_below l x n)
+
+-- a further cell changes no bit before it
+bits_below-more : (l : CellsValue) (x : List ℕ) (n k : ℕ) → k < n → get_or (bits_below l x (suc n)) k 0 ≡ get_or (bits_below l x n) k 0
+unfolding bits_below
+bits_below-more l x n k lt = get_or_append_left (bits_below l x n) _ 0 k (omega (arith, length-bits_below l x n))
+
+-- and so none of the sources before it
+pins-more : (l : CellsValue) (x : List ℕ) (n k : ℕ) → AreCells l → k < length l.cells → k < suc n
+    → map (source_bit x (bits_below l x n)) (cell_at l k).pins ≡ map (source_bit x (bits_below l x (suc n))) (cell_at l k).pins
+pins-more l x n k h lt le =
+    source_bits-same x (bits_below l x n) (bits_below l x (suc n)) (cell_at l k).pins
+    (λ j has. let lower : j < k = listens_below l k j h lt has in sym (bits_below-more l x n j (omega arith)))
+
+-- the bit of the last of them
+last_bit : (l : CellsValue) (x : List ℕ) (n : ℕ)
+    → get_or (bits_below l x (suc n)) n 0 ≡ table_bit (cell_at l n).table (map (source_bit x (bits_below l x n)) (cell_at l n).pins)
+unfolding bits_below
+last_bit l x n = get_or_push (bits_below l x n) _ 0 n (length-bits_below l x n)
+
+-- they obey the equations of the first n cells
+bits_below-obey : (l : CellsValue) (x : List ℕ) → AreCells l → (n k : ℕ) → k < n → k < length l.cells
+    → IsCellBit l x (bits_below l x n) k
+bits_below-obey l x h zero k below lt = absurd (omega arith)
+bits_below-obey l x h (suc n) k below lt =
+    ⊎_elim
+    (λ here. bits_below-more l x n k here
+    ∙ bits_below-obey l x h n k here lt
+    ∙ ap (table_bit (cell_at l k).table) (pins-more l x n k h lt below))
+    (λ past. let e : n ≡ k = omega arith in
+    let P : ℕ → Type 0 = λ m. IsCellBit l x (bits_below l x (suc n)) m in
+    subst P e (last_bit l x n
+    ∙ ap (table_bit (cell_at l n).table) (pins-more l x n n h (omega arith) (omega arith))))
+    (cases_lt k n)
+
+-- there is a solution
+pub bits-exist : (l : CellsValue) (x : List ℕ) → AreCells l → (a : List ℕ) × CellBits l x a
+bits-exist l x h =
+    let n = length l.cells in
+    (bits_below l x n, record { count = length-bits_below l x n; each = λ k lt. bits_below-obey l x h n k lt lt })

@@ -1,0 +1,8 @@
+use Rattle.cell_laws.proofs.CellEquations.{bits-exist, bits-unique}
+use Rattle.cell_laws.proofs.laws.bits_exist.Goals as goal
+
+pub returns-clause-exist : goal.returns-clause-exist
+returns-clause-exist c = bits-exist
+
+pub returns-clause-unique : goal.returns-clause-unique
+returns-clause-unique c = bits-unique

@@ -1,0 +1,5 @@
+use Rattle.cell_laws.proofs.CellsLemmas.{cells-unique}
+use Rattle.cell_laws.proofs.laws.cells_are_unique.Goals as goal
+
+pub returns : goal.returns
+returns c = cells-unique

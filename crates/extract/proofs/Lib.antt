@@ -1,0 +1,4 @@
+pub mod PlaceLemmas
+pub mod WalkLemmas
+pub mod FlatLemmas
+pub mod ConeLemmas

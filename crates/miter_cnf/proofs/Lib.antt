@@ -1,0 +1,5 @@
+pub mod WritingLemmas
+pub mod RowLemmas
+pub mod NumberLemmas
+pub mod OutputLemmas
+pub mod FormulaLemmas

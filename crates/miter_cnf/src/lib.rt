@@ -1,0 +1,28 @@
+//! The miter of a net and the cells of a configuration: clauses that are satisfiable where an output
+//! of the two differs for some input.
+//!
+//! `miter` gives the clauses, and `Numbering` says which variable stands for what. The definitions
+//! stand in `miter_defs` and the laws in `miter_laws`; `specs/Numbered` says what a numbering rests
+//! on, and `specs/Writing` how clauses are added.
+//!
+//! Variables, from 1: one that is false; the inputs and the nodes of the net; the rows by node; the
+//! cells of the cone by number; the differences of the outputs. Clauses, in the same order: the false
+//! one; for each node its rows and then the node; for each cell of the cone a clause for each bit of
+//! its table; for each output four clauses; at last that some output differs.
+#![tactic(auto)]
+
+mod cell_numbers;
+mod circuits;
+mod formula;
+mod nodes;
+mod numbering;
+mod outputs;
+mod row_numbers;
+mod tables;
+mod writer;
+
+pub use formula::miter;
+pub use numbering::Numbering;
+
+#[cfg(test)]
+mod tests;

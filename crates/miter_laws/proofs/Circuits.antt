@@ -1,0 +1,184 @@
+-- Every clause of both circuits is satisfied by an assignment that gives all variables their bits.
+use Rattle.std.proofs.Common.{◌≡◌, ℕ, ◌+◌, ◌^◌, ◌<◌, ◌≤◌, inl, inr, Bool, true, false, not, if◌then◌else◌, List, [], ◌∷◌, ◌++◌, length, map, get_or, Some, All, refl, ap, subst, sym, ◌∙◌, arith}
+use Rattle.std.specs.List.{list_any}
+use Rattle.std.proofs.lemmas.Bool.{cases_Bool, both_ways}
+use Rattle.std.proofs.lemmas.List.{length-map, get_or-map, get_or_default}
+use Rattle.std.proofs.lemmas.List.Folds.{Any-from_list_any, list_any_at}
+use Rattle.clause_defs.specs.Clauses.{Lits, Has, Satisfies}
+use Rattle.sat_text_defs.specs.Spellings.{clause_of}
+use Rattle.sat_text_defs.proofs.ClauseOf.{SameSet-clause_of}
+use Rattle.net_defs.specs.Networks.{Network, no_node, node_at, signals}
+use Rattle.net_defs.specs.Evaluation.{some_row_hits, hits, bits_at, Settles}
+use Rattle.net_defs.specs.Nets.{IsNet}
+use Rattle.fabric_defs.specs.Numbered.{list_of, joined}
+use Rattle.fabric_defs.specs.Geometries.{table_bits}
+use Rattle.cell_defs.specs.declared.source.Source.TheVariants.{Zero, Cell}
+use Rattle.cell_defs.specs.Cells.{CellsValue, cell_at, IsSourceBelow, AreCells}
+use Rattle.cell_defs.specs.Cones.{in_cone, IsClosed}
+use Rattle.cell_defs.specs.Evaluation.{source_bit, CellBits}
+use Rattle.miter_defs.specs.Equality.{IsBits}
+use Rattle.miter_defs.specs.Numberings.{zero_variable, signal_variable, node_variable, row_variable, cell_variable, difference_variable, source_variable}
+use Rattle.miter_defs.specs.Miters.{negative, row_literals, hit_clauses, cover_clauses, row_at, node_clauses, table_clause, cell_clauses, no_output, output_clauses, circuit_clauses}
+use Rattle.miter_laws.proofs.Membership.{place_has, All-Has, Each, each_cons, each_append, each_map, each_list_of, each_joined}
+use Rattle.miter_laws.proofs.Truth.{bit, GivesSignal, decided_row, hit_clauses-hold, SomeBelow, cover_clauses-hold, difference_clauses-hold}
+use Rattle.miter_laws.proofs.Tables.{table_clause-holds}
+use Rattle.miter_laws.proofs.Assignment.{GivesAll, net_output, pad_output, signal-within, cells-bits, gives_source, source_bit-le}
+
+-- what an assignment of all variables comes from
+pub record Extended (net : Network) (l : CellsValue) (x s b a : List ℕ) : Type 0 where
+  pub is_net : IsNet net
+  pub cells : AreCells l
+  pub closed : IsClosed l (in_cone l)
+  pub outputs : length net.outputs ≤ l.geometry.output_pads
+  pub bits : IsBits (length net.inputs) x
+  pub settles : Settles net x s
+  pub cell_bits : CellBits l x b
+  pub gives : GivesAll net l x s b a
+
+-- ---- the network
+
+-- what `some_row_hits` says of the rows by place
+some_below : {X : Type 0} (p : X → Bool) (xs : List X) (d : X) (t : Bool) → list_any p xs ≡ t
+    → SomeBelow (length xs) (λ r. p (get_or xs r d)) t
+some_below p xs d true e =
+    let found = Any-from_list_any p xs e in
+    (found.0, found.2, ap p (get_or_default xs found.0 d found.1 found.2 ∙ found.3) ∙ found.4)
+some_below p xs d false e = λ r lt.
+    elim (cases_Bool (p (get_or xs r d))) [
+      | inl t ↦ absurd (both_ways (list_any p xs) e (list_any_at p xs r d lt t))
+      | inr f ↦ f
+    ]
+
+-- the bit of a node by its sign
+node_bit-sign : (some on : Bool) → (if some then (if on then 1 else 0) else (if on then 0 else 1)) ≡ (if some then bit on else bit (not on))
+node_bit-sign true on = refl
+node_bit-sign false true = refl
+node_bit-sign false false = refl
+
+-- the assignment gives the fan-ins of a node their bits
+fan_in-given : (net : Network) (l : CellsValue) (x s b a : List ℕ) → Extended net l x s b a → (v : ℕ) → v < length net.nodes
+    → (t : ℕ) → Has (node_at net v).fan_ins t → GivesSignal a s t
+fan_in-given net l x s b a h v lt t has =
+    let n = h.is_net in
+    let below : t < signals net = All-Has (λ i. i < signals net) (node_at net v).fan_ins t (n.nodes v no_node lt).fan_ins has in
+    record { given = h.gives.signals t below; within = signal-within net x s h.bits h.settles t below }
+
+-- the clauses of a node and its rows
+node_clauses-hold : (net : Network) (l : CellsValue) (x s b a : List ℕ) → Extended net l x s b a → (v : ℕ) → v < length net.nodes
+    → Each (Satisfies a) (node_clauses net v)
+node_clauses-hold net l x s b a h v lt =
+    let node = node_at net v in
+    let n = h.is_net in
+    let values : List ℕ = bits_at s node.fan_ins in
+    let rows = λ (r : ℕ). hit_clauses (row_variable net v r) (row_literals (row_at net v r) node.fan_ins) in
+    each_append (Satisfies a) (joined (length node.rows) rows)
+    (cover_clauses (node_variable net v) node.on (list_of (length node.rows) (row_variable net v)))
+    (each_joined (Satisfies a) (length node.rows) rows
+    (λ r below. hit_clauses-hold a (row_variable net v r) (row_literals (row_at net v r) node.fan_ins)
+    (hits (row_at net v r) values) (h.gives.rows v r lt below)
+    (decided_row a s (row_at net v r) node.fan_ins ((n.nodes v no_node lt).rows r [] below) (fan_in-given net l x s b a h v lt))))
+    (cover_clauses-hold a (node_variable net v) (length node.rows) node.on (some_row_hits node values)
+    (row_variable net v) (λ r. hits (row_at net v r) values)
+    (h.gives.signals (length net.inputs + v) (omega arith)
+    ∙ ap Some (h.settles.nodes v lt ∙ node_bit-sign (some_row_hits node values) node.on))
+    (λ r below. h.gives.rows v r lt below)
+    (some_below (λ row. hits row values) node.rows [] (some_row_hits node values) refl))
+
+-- ---- the cells
+
+-- a cell to which a pin of the cone listens is in the cone
+pin-in_cone : (net : Network) (l : CellsValue) (x s b a : List ℕ) → Extended net l x s b a → (k : ℕ) → k < length l.cells
+    → in_cone l k ≡ true → (j : ℕ) → j < length (cell_at l k).pins → (m : ℕ) → get_or (cell_at l k).pins j Zero ≡ Cell m
+    → (m < length l.cells) × (in_cone l m ≡ true)
+pin-in_cone net l x s b a h k lt member j below m e =
+    let c = h.cells in
+    let has : Has (cell_at l k).pins (Cell m) =
+    subst (Has (cell_at l k).pins) e (place_has (cell_at l k).pins j Zero below) in
+    let lower : m < k = All-Has (IsSourceBelow l.geometry k) (cell_at l k).pins (Cell m) (c.cells k (omega (arith, c.count))).sources has in
+    (omega arith, h.closed.pins k m lt member has)
+
+-- where the bits of its pins are bits, each of the clauses is satisfied
+table_clauses-hold : (net : Network) (l : CellsValue) (x s b a : List ℕ) → Extended net l x s b a → (k : ℕ) → k < length l.cells
+    → in_cone l k ≡ true → (size : ℕ) → size ≡ 2 ^ length (cell_at l k).pins
+    → Each (Satisfies a) (list_of size (table_clause net l k))
+table_clauses-hold net l x s b a h k lt member size e =
+    let pins = (cell_at l k).pins in
+    each_list_of (Satisfies a) size (table_clause net l k)
+    (λ n below. table_clause-holds a (map (source_bit x b) pins) (length pins) (cell_variable net l k) (cell_at l k).table n
+    (λ j. source_variable net l (get_or pins j Zero))
+    (length-map pins (source_bit x b))
+    (each_map (λ y. y ≤ 1) (source_bit x b) pins
+    (λ source _. source_bit-le x b h.bits.bits (cells-bits l x b h.cell_bits) source))
+    (λ j less. gives_source net l x s b a h.gives h.settles h.bits (get_or pins j Zero)
+    (λ m is. pin-in_cone net l x s b a h k lt member j less m is)
+    ∙ ap Some (sym (get_or-map (source_bit x b) pins j Zero 0 less)))
+    (h.gives.cells k lt member ∙ ap Some (h.cell_bits.each k lt))
+    (omega arith))
+
+-- the clauses of a cell, of which there are none outside the cone
+cell_clauses-hold : (net : Network) (l : CellsValue) (x s b a : List ℕ) → Extended net l x s b a → (k : ℕ) → k < length l.cells
+    → Each (Satisfies a) (cell_clauses net l k)
+cell_clauses-hold net l x s b a h k lt c has =
+    let cs = h.cells in
+    elim (cases_Bool (in_cone l k)) [
+      | inl member ↦ table_clauses-hold net l x s b a h k lt member (table_bits l.geometry)
+          (ap (λ n. 2 ^ n) (sym (cs.cells k (omega (arith, cs.count))).pins)) c (rw member at has)
+      | inr outside ↦ absurd (rw outside at has)
+    ]
+
+-- ---- the outputs
+
+-- a cell to which an output pad listens is in the cone
+output-in_cone : (l : CellsValue) → AreCells l → IsClosed l (in_cone l) → (o : ℕ) → o < length l.outputs → (m : ℕ)
+    → get_or l.outputs o Zero ≡ Cell m → (m < length l.cells) × (in_cone l m ≡ true)
+output-in_cone l cells closed o lt m e =
+    let has : Has l.outputs (Cell m) = subst (Has l.outputs) e (place_has l.outputs o Zero lt) in
+    let below = All-Has (IsSourceBelow l.geometry (length l.cells)) l.outputs (Cell m)
+    (subst (λ n. All (IsSourceBelow l.geometry n) l.outputs) (sym cells.count) cells.outputs) has in
+    (below, closed.outputs m has)
+
+-- the clauses of an output
+output_clauses-hold : (net : Network) (l : CellsValue) (x s b a : List ℕ) → Extended net l x s b a → (o : ℕ) → o < length net.outputs
+    → Each (Satisfies a) (output_clauses net l o)
+output_clauses-hold net l x s b a h o lt =
+    let n = h.is_net in
+    let cs = h.cells in
+    let signal : ℕ = (get_or net.outputs o no_output).signal in
+    let below : signal < signals net = n.output_signals o no_output lt in
+    difference_clauses-hold a (difference_variable net l o) (signal_variable signal)
+    (source_variable net l (get_or l.outputs o Zero))
+    (net_output net s o) (pad_output l x b o)
+    (h.gives.differences o lt)
+    (h.gives.signals signal below)
+    (gives_source net l x s b a h.gives h.settles h.bits (get_or l.outputs o Zero)
+    (output-in_cone l h.cells h.closed o (let fits = h.outputs in omega (arith, cs.pads))))
+    (signal-within net x s h.bits h.settles signal below)
+    (source_bit-le x b h.bits.bits (cells-bits l x b h.cell_bits) (get_or l.outputs o Zero))
+
+-- ---- all of them
+
+-- all of them, before repeated literals are left out
+circuit-holds : (net : Network) (l : CellsValue) (x s b a : List ℕ) → Extended net l x s b a
+    → Each (Satisfies a) (circuit_clauses net l)
+circuit-holds net l x s b a h =
+    let zero : Lits = negative zero_variable ∷ [] in
+    let nodes : List Lits = joined (length net.nodes) (node_clauses net) in
+    let cells : List Lits = joined (length l.cells) (cell_clauses net l) in
+    let outputs : List Lits = joined (length net.outputs) (output_clauses net l) in
+    each_append (Satisfies a) ((zero ∷ nodes) ++ cells) outputs
+    (each_append (Satisfies a) (zero ∷ nodes) cells
+    (each_cons (Satisfies a) zero nodes (negative zero_variable, inl refl, h.gives.zero)
+    (each_joined (Satisfies a) (length net.nodes) (node_clauses net) (node_clauses-hold net l x s b a h)))
+    (each_joined (Satisfies a) (length l.cells) (cell_clauses net l) (cell_clauses-hold net l x s b a h)))
+    (each_joined (Satisfies a) (length net.outputs) (output_clauses net l) (output_clauses-hold net l x s b a h))
+
+-- a clause and the set of its literals are satisfied alike
+pub Satisfies-clause_of : (a : List ℕ) (c : Lits) → Satisfies a c → Satisfies a (clause_of c)
+Satisfies-clause_of a c h = (h.0, (SameSet-clause_of c h.0).1 h.1, h.2)
+
+-- all of them
+pub circuits-hold : (net : Network) (l : CellsValue) (x s b a : List ℕ) → Extended net l x s b a
+    → Each (Satisfies a) (map clause_of (circuit_clauses net l))
+circuits-hold net l x s b a h =
+    each_map (Satisfies a) clause_of (circuit_clauses net l)
+    (λ c has. Satisfies-clause_of a c (circuit-holds net l x s b a h c has))

@@ -1,0 +1,11 @@
+use Rattle.miter_laws.proofs.Ranges.{clauses-range, clauses-IsClause, variable_count-le}
+use Rattle.miter_laws.proofs.laws.clauses_are_clauses.Goals as goal
+
+pub returns-clause-clauses : goal.returns-clause-clauses
+returns-clause-clauses c = clauses-IsClause
+
+pub returns-clause-within : goal.returns-clause-within
+returns-clause-within c net l n cells d has m in_d = (clauses-range net l n d has m in_d).1
+
+pub returns-clause-variables : goal.returns-clause-variables
+returns-clause-variables c = variable_count-le

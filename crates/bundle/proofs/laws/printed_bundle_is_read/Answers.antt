@@ -1,0 +1,9 @@
+use Rattle.std.proofs.Common.{refl, sym, ◌∙◌, Ok}
+use Rattle.bundle_defs.specs.Bundles.{bundle_bytes}
+use Rattle.bundle.proofs.AnswerLemmas.{answer_in-only}
+use Rattle.bundle.proofs.laws.printed_bundle_is_read.Goals as goal
+
+pub returns : goal.returns
+returns c v answer geometry config trace h =
+    sym (answer_in-only (bundle_bytes v) answer h)
+    ∙ answer_in-only (bundle_bytes v) (Ok v) (record { geometry = geometry; config_within = config; trace_within = trace; text = refl })

@@ -1,0 +1,115 @@
+ghost use Rattle.std.specs.Prelude.{◌≡◌, ◌+◌, ◌^◌, ◌<◌, ◌≤◌, ◌↔◌, length, IsTrue, IsSome, IfSome, IfOk, IfErr, Err};
+ghost use Rattle.fabric_defs.specs.Geometries.{IsGeometry};
+ghost use Rattle.bundle_defs.specs.Faults.{HasMagic, HasHead, HasItsLength, HasItsDigest, BundleOf, number_at, geometry_in, config_length};
+ghost use Rattle.bundle.specs.Values.{Gives};
+
+use crate::layout::{DIGEST_BYTES, HEAD_BYTES, LENGTH_BYTES, VERSION};
+use crate::value::Bundle;
+use bundle_defs::BundleError;
+use byteorder::{BigEndian, ByteOrder};
+use fabric::Geometry;
+use sha2::{Digest, Sha256};
+
+/// The bundle of the bytes, or their first fault: `Magic` where they don't begin with `PCHB`;
+/// `Lengths` where there is no whole version; `Version`; `Lengths` where there is no whole geometry;
+/// `Geometry`; `Lengths` where there aren't exactly as many bytes as both lengths demand; `Digest`.
+/// Takes no memory: the parts are those of the bytes.
+pub fn read_bundle(b: &[u8]) -> Result<Bundle<'_>, BundleError>
+    ensures { Gives b.now result }
+{
+    let geometry = read_head(b)?;
+    let Some(place) = trace_length_place(b) else {
+        return Err(BundleError::Lengths);
+    };
+    if !has_its_digest(b) {
+        return Err(BundleError::Digest);
+    }
+    let digest_place = b.len() - DIGEST_BYTES;
+    Ok(Bundle {
+        geometry,
+        config: &b[HEAD_BYTES..place],
+        trace: &b[place + LENGTH_BYTES..digest_place],
+    })
+}
+
+/// The geometry, or the first fault before the lengths.
+fn read_head(b: &[u8]) -> Result<Geometry, BundleError>
+    ensures head { IfOk result (λ g. HasHead b.now × (g ≡ geometry_in b.now)) }
+    ensures fault { IfErr result (λ e. BundleOf b.now (Err e)) }
+{
+    if !b.starts_with(b"PCHB") {
+        return Err(BundleError::Magic);
+    }
+    if b.len() < 6 {
+        return Err(BundleError::Lengths);
+    }
+    let found = small_number_at(b, 4);
+    if found != u32::from(VERSION) {
+        return Err(BundleError::Version { found });
+    }
+    if b.len() < 16 {
+        return Err(BundleError::Lengths);
+    }
+    geometry_at(b).ok_or(BundleError::Geometry)
+}
+
+/// The geometry behind the version, if its numbers are within their limits.
+fn geometry_at(b: &[u8]) -> Option<Geometry>
+    requires { 16 ≤ length b.now }
+    ensures some { IsSome result ↔ IsGeometry (geometry_in b.now) }
+    ensures value { IfSome result (λ g. g ≡ geometry_in b.now) }
+{
+    Geometry::new(
+        small_number_at(b, 6),
+        small_number_at(b, 8),
+        small_number_at(b, 10),
+        small_number_at(b, 12),
+        small_number_at(b, 14),
+    )
+}
+
+/// Where the trace's length stands, if there are exactly as many bytes as both lengths demand.
+fn trace_length_place(b: &[u8]) -> Option<usize>
+    ensures some { IsSome result ↔ HasItsLength b.now }
+    ensures value { IfSome result (λ place. place ≡ 20 + config_length b.now) }
+{
+    let free = b
+        .len()
+        .checked_sub(HEAD_BYTES + LENGTH_BYTES + DIGEST_BYTES)?;
+    let config = length_at(b, HEAD_BYTES - LENGTH_BYTES);
+    if free < config {
+        return None;
+    }
+    let place = HEAD_BYTES + config;
+    if free - config == length_at(b, place) {
+        Some(place)
+    } else {
+        None
+    }
+}
+
+/// Whether the last bytes are the digest of all before.
+fn has_its_digest(b: &[u8]) -> bool
+    requires { 32 ≤ length b.now }
+    ensures { IsTrue result ↔ HasItsDigest b.now }
+{
+    let (body, digest) = b.split_at(b.len() - DIGEST_BYTES);
+    Sha256::digest(body).as_slice() == digest
+}
+
+/// The number of two bytes at a place.
+fn small_number_at(b: &[u8], place: usize) -> u32
+    requires { place + 2 ≤ length b.now }
+    ensures { result ≡ number_at place 2 b.now }
+{
+    u32::from(BigEndian::read_u16(&b[place..]))
+}
+
+/// The number of four bytes at a place.
+fn length_at(b: &[u8], place: usize) -> usize
+    requires { place + LENGTH_BYTES ≤ length b.now }
+    ensures value { result ≡ number_at place 4 b.now }
+    ensures small { result < 2 ^ 32 }
+{
+    BigEndian::read_u32(&b[place..]) as usize
+}

@@ -1,0 +1,40 @@
+-- The bytes of a bundle: `PCHB`, the version, the five numbers of the geometry, the configuration and the trace
+-- with their lengths before them, and the digest of all before. Numbers have the more significant byte first.
+use Rattle.std.specs.Prelude.{◌≡◌, ℕ, ◌<◌, ◌^◌, List, [], ◌∷◌, ◌++◌, length}
+use Rattle.byteorder.specs.Endian.{big_bytes}
+use Rattle.sha2.specs.Sha256.{sha256}
+use Rattle.fabric_defs.specs.Geometries.{GeometryValue, IsGeometry}
+
+-- a geometry, and the bytes of a configuration and of a trace
+pub record BundleValue : Type 0 where
+  pub geometry : GeometryValue
+  pub config : List ℕ
+  pub trace : List ℕ
+
+-- `PCHB`
+abbrev pub magic : List ℕ
+magic = 80 ∷ 67 ∷ 72 ∷ 66 ∷ []
+
+abbrev pub version : ℕ
+version = 1
+
+abbrev pub geometry_bytes : GeometryValue → List ℕ
+geometry_bytes g =
+    big_bytes 2 g.columns ++ big_bytes 2 g.rows ++ big_bytes 2 g.tracks ++ big_bytes 2 g.input_pads ++ big_bytes 2 g.output_pads
+
+-- all bytes before the digest
+abbrev pub body : BundleValue → List ℕ
+body v =
+    magic ++ big_bytes 2 version ++ geometry_bytes v.geometry
+    ++ big_bytes 4 (length v.config) ++ v.config
+    ++ big_bytes 4 (length v.trace) ++ v.trace
+
+abbrev pub bundle_bytes : BundleValue → List ℕ
+bundle_bytes v = body v ++ sha256 (body v)
+
+-- these bytes are the bundle of this value
+pub record BundleText (bytes : List ℕ) (v : BundleValue) : Type 0 where
+  pub geometry : IsGeometry v.geometry
+  pub config_within : length v.config < 2 ^ 32
+  pub trace_within : length v.trace < 2 ^ 32
+  pub text : bytes ≡ bundle_bytes v

@@ -1,0 +1,130 @@
+-- Each list of cells that listen to lower numbers only has a cone: the cells that the output pads reach in a
+-- number of steps.
+use Rattle.std.proofs.Common.{◌≡◌, ℕ, zero, suc, ◌+◌, ◌<◌, ◌≤◌, ◌⊎◌, inl, inr, Bool, true, false, List, [], ◌∷◌, length, refl, subst, arith}
+use Rattle.std.proofs.lemmas.Bool.{cases_eq, cases_order}
+use Rattle.clause_defs.specs.Clauses.{Has}
+use Rattle.fabric_defs.specs.Geometries.{cell_count}
+use Rattle.cell_defs.specs.declared.source.Source.{Source}
+use Rattle.cell_defs.specs.declared.source.Source.TheVariants.{Zero, Pad, Cell}
+use Rattle.cell_defs.specs.Cells.{CellsValue, cell_at, IsSourceBelow, AreCells}
+use Rattle.cell_defs.specs.Cones.{IsClosed, IsCone}
+use Rattle.cell_laws.proofs.SourceBits.{All-Has}
+
+-- the source is this cell or not
+is_cell_cases : (s : Source) (k : ℕ) → (s ≡ Cell k) ⊎ (s ≡ Cell k → ⊥)
+is_cell_cases Zero k = inr (λ e. cc)
+is_cell_cases (Pad p) k = inr (λ e. cc)
+is_cell_cases (Cell m) k =
+    elim (cases_eq m k) [ inl e ↦ inl (let same = e in cc) | inr other ↦ inr (λ e. other (let same = e in cc)) ]
+
+-- the sources have this cell or not
+has_cell_cases : (ss : List Source) (k : ℕ) → Has ss (Cell k) ⊎ (Has ss (Cell k) → ⊥)
+has_cell_cases [] k = inr (λ h. h)
+has_cell_cases (s ∷ ss) k =
+    elim (is_cell_cases s k) [
+      | inl e ↦ inl (inl e)
+      | inr other ↦ elim (has_cell_cases ss k) [ inl h ↦ inl (inr h) | inr none ↦ inr (λ h. elim h [ inl e ↦ other e | inr i ↦ none i ]) ]
+    ]
+
+-- something holds of a number below n, or of none
+below_cases : (P : ℕ → Type 0) → ((m : ℕ) → P m ⊎ (P m → ⊥)) → (n : ℕ)
+    → ((m : ℕ) × (m < n) × P m) ⊎ ((m : ℕ) → m < n → P m → ⊥)
+below_cases P cases zero = inr (λ m lt h. absurd (omega arith))
+below_cases P cases (suc n) =
+    elim (cases n) [
+      | inl here ↦ inl (n, omega arith, here)
+      | inr not ↦ elim (below_cases P cases n) [
+        | inl found ↦ inl (found.0, let lt = found.1 in omega arith, found.2)
+        | inr none ↦ inr (λ m lt h. elim (cases_order m n) [
+          | inl e ↦ not (subst P e h)
+          | inr other ↦ elim other [ inl below ↦ none m below h | inr above ↦ absurd (omega arith) ]
+        ])
+      ]
+    ]
+
+-- the output pads reach cell k in at most so many steps
+abbrev Reached : CellsValue → ℕ → ℕ → Type 0
+Reached l zero k = ⊥
+Reached l (suc steps) k =
+    Has l.outputs (Cell k)
+    ⊎ ((m : ℕ) × (m < length l.cells) × (Reached l steps m × Has (cell_at l m).pins (Cell k)))
+
+-- what cell m, which is reached, has among its pins
+abbrev Passes : CellsValue → ℕ → ℕ → ℕ → Type 0
+Passes l steps k m = Reached l steps m × Has (cell_at l m).pins (Cell k)
+
+-- a cell passes it on or not
+passes_cases : (l : CellsValue) (steps k m : ℕ) → Reached l steps m ⊎ (Reached l steps m → ⊥)
+    → Passes l steps k m ⊎ (Passes l steps k m → ⊥)
+passes_cases l steps k m (inr not) = inr (λ h. not h.0)
+passes_cases l steps k m (inl there) =
+    elim (has_cell_cases (cell_at l m).pins k) [ inl has ↦ inl (there, has) | inr lacks ↦ inr (λ h. lacks h.1) ]
+
+-- a cell is reached in so many steps or not
+reached_cases : (l : CellsValue) (steps k : ℕ) → Reached l steps k ⊎ (Reached l steps k → ⊥)
+reached_cases l zero k = inr (λ h. h)
+reached_cases l (suc steps) k =
+    elim (has_cell_cases l.outputs k) [
+      | inl has ↦ inl (inl has)
+      | inr lacks ↦ elim (below_cases (Passes l steps k) (λ m. passes_cases l steps k m (reached_cases l steps m)) (length l.cells)) [
+        | inl found ↦ inl (inr found)
+        | inr none ↦ inr (λ h. elim h [ inl has ↦ lacks has | inr found ↦ none found.0 found.1 found.2 ])
+      ]
+    ]
+
+-- an answer as a test
+abbrev is_yes : {P : Type 0} → P ⊎ (P → ⊥) → Bool
+is_yes (inl h) = true
+is_yes (inr h) = false
+
+-- the test is true where the answer is yes
+yes_where : {P : Type 0} (answer : P ⊎ (P → ⊥)) → P → is_yes answer ≡ true
+yes_where (inl h) p = refl
+yes_where (inr h) p = absurd (h p)
+
+-- and only there
+yes_only : {P : Type 0} (answer : P ⊎ (P → ⊥)) → is_yes answer ≡ true → P
+yes_only (inl h) e = h
+yes_only (inr h) e = absurd cc
+
+-- output pads listen to cells
+pub output_cell-lt : (l : CellsValue) (k : ℕ) → AreCells l → Has l.outputs (Cell k) → k < length l.cells
+output_cell-lt l k cells has =
+    let within : k < cell_count l.geometry = All-Has (IsSourceBelow l.geometry (cell_count l.geometry)) l.outputs (Cell k) cells.outputs has in
+    omega (arith, cells.count)
+
+-- cells listen to lower numbers
+pub pin_cell-lt : (l : CellsValue) (m k : ℕ) → AreCells l → m < length l.cells → Has (cell_at l m).pins (Cell k) → k < m
+pin_cell-lt l m k cells lt has =
+    All-Has (IsSourceBelow l.geometry m) (cell_at l m).pins (Cell k) (cells.cells m (omega (arith, cells.count))).sources has
+
+-- a cell with few cells above it is reached in few steps, if at all
+few_steps : (l : CellsValue) (steps k : ℕ) → AreCells l → length l.cells ≤ k + steps → Reached l (suc steps) k → Reached l steps k
+few_steps l zero k cells le (inl has) = absurd (let lt = output_cell-lt l k cells has in omega arith)
+few_steps l zero k cells le (inr found) = found.2.0
+few_steps l (suc steps) k cells le (inl has) = inl has
+few_steps l (suc steps) k cells le (inr found) =
+    let lt : k < found.0 = pin_cell-lt l found.0 k cells found.1 found.2.1 in
+    inr (found.0, found.1, (few_steps l steps found.0 cells (omega arith) found.2.0, found.2.1))
+
+-- what is reached is in each closed set
+reached_closed : (l : CellsValue) (set : ℕ → Bool) (steps k : ℕ) → IsClosed l set → Reached l steps k → set k ≡ true
+reached_closed l set zero k closed h = absurd h
+reached_closed l set (suc steps) k closed (inl has) = closed.outputs k has
+reached_closed l set (suc steps) k closed (inr found) =
+    closed.pins found.0 k found.1 (reached_closed l set steps found.0 closed found.2.0) found.2.1
+
+-- what is reached in as many steps as there are cells is the least closed set
+pub cone_exists : (l : CellsValue) → AreCells l → (set : ℕ → Bool) × IsCone l set
+cone_exists l cells =
+    let steps = length l.cells in (
+      λ k. is_yes (reached_cases l steps k),
+      record {
+        closed = record {
+          outputs = λ k has. yes_where (reached_cases l steps k) (few_steps l steps k cells (omega arith) (inl has));
+          pins = λ m k lt member has. yes_where (reached_cases l steps k) (few_steps l steps k cells (omega arith)
+              (inr (m, lt, (yes_only (reached_cases l steps m) member, has))));
+        };
+        least = λ other closed k member. reached_closed l other steps k closed (yes_only (reached_cases l steps k) member);
+      },
+    )

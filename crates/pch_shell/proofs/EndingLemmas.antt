@@ -1,7 +1,7 @@
 -- What follows from how a command ends.
-use Rattle.std.proofs.Common.{◌≡◌, ◌≢◌, ℕ, ◌⊎◌, inl, inr, List, [], ◌++◌, Option, Some, None, Result, Ok, Err, IfOk, OnErr, sym, refl, ◌∙◌}
+use Rattle.std.proofs.Common.{◌≡◌, ◌≢◌, ℕ, inl, inr, List, [], Option, Some, None, Result, Ok, Err, IfOk, OnErr, sym, ◌∙◌}
 use Rattle.std.proofs.lemmas.List.{append-nil}
-use Rattle.pch_io.specs.Outside.{Rose, Appends, AppendsPrefix}
+use Rattle.pch_io.specs.Outside.{Rose, Appends}
 use Rattle.pch_shell.specs.declared.status.Status.{Status}
 use Rattle.pch_shell.specs.declared.status.Status.TheVariants.{Sink, Memory}
 use Rattle.pch_shell.specs.Endings.{Put, Ends}

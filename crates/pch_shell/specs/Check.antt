@@ -1,21 +1,21 @@
 -- What `check CNF TRACE` finds, the line that says it, and why it can't be found.
-use Rattle.std.specs.Prelude.{ℕ, List, [], Option, codes}
+use Rattle.std.specs.Prelude.{◌≡◌, ◌≢◌, ◌⊎◌, ℕ, List, [], codes}
 use Rattle.clause_defs.specs.Clauses.{Unsat}
 use Rattle.clause_defs.specs.Traces.{Entry}
 use Rattle.clause_defs.specs.Verdicts.{VerdictOf}
 use Rattle.clause_defs.specs.declared.verdict.ChainError.TheVariants.{NoClash, ManyClash, Other}
 use Rattle.clause_defs.specs.declared.verdict.Verdict.{Verdict}
 use Rattle.clause_defs.specs.declared.verdict.Verdict.TheVariants.{Refutes, NotOriginal, Chain, NotEmptyEnd}
-use Rattle.sat_text_defs.specs.declared.fault.TheConstants.{MAX_CNF_BYTES, MAX_TRACE_BYTES}
 use Rattle.sat_text_defs.specs.declared.fault.CnfFault.{CnfFault}
 use Rattle.sat_text_defs.specs.declared.fault.CnfFault.TheVariants as cnf_faults
 use Rattle.sat_text_defs.specs.declared.fault.TraceFault.{TraceFault}
 use Rattle.sat_text_defs.specs.declared.fault.TraceFault.TheVariants as trace_faults
 use Rattle.sat_text_defs.specs.CnfText.{Formula}
 use Rattle.sat_text_defs.specs.TraceText.{TraceText, TraceTextFault}
-use Rattle.cnf_laws.specs.CnfGrammar.{CnfText}
-use Rattle.pch_io.specs.Outside.{Files, Loads}
+use Rattle.cnf_laws.specs.CnfGrammar.{CnfText, CnfTextFault}
 use Rattle.pch_shell.specs.Lines.{and_word, and_number, ended}
+use Rattle.pch_shell.specs.declared.status.Status.{Status}
+use Rattle.pch_shell.specs.declared.status.Status.TheVariants.{Done, NotAccepted, Words, Store, Sink, Memory, Differs, Unroutable, Spent, BadInput}
 
 -- the bytes of a CNF and of a trace that shows of the CNF's clauses what the verdict says
 pub record Shows (cnf trace : List ℕ) (v : Verdict) : Type 0 where
@@ -40,13 +40,6 @@ pub record TraceIsFaulty (cnf trace : List ℕ) (fault : TraceFault) : Type 0 wh
   pub reads_cnf : CnfText cnf formula
   pub faulty : TraceTextFault trace fault
 
--- both files were loaded
-pub record Loaded (told : Option Files) (cnf_name trace_name : List ℕ) : Type 0 where
-  pub cnf : List ℕ
-  pub trace : List ℕ
-  pub cnf_loaded : Loads told cnf_name MAX_CNF_BYTES cnf
-  pub trace_loaded : Loads told trace_name MAX_TRACE_BYTES trace
-
 -- `refused` with the reason
 abbrev pub refused_line : Verdict → List ℕ
 refused_line Refutes = []
@@ -58,19 +51,35 @@ refused_line (Chain (ManyClash clause step)) =
 refused_line (Chain (Other clause)) = ended (and_number (and_word (codes "refused") (codes "other-clause")) clause)
 refused_line NotEmptyEnd = ended (and_word (codes "refused") (codes "not-empty-end"))
 
--- `cnf NAME FAULT`
+-- `cnf NAME FAULT`, where `cnf NAME` stands in front
 abbrev pub cnf_line : List ℕ → CnfFault → List ℕ
-cnf_line name cnf_faults.TooLong = ended (and_word (and_word (codes "cnf") name) (codes "too-long"))
-cnf_line name (cnf_faults.Syntax at) = ended (and_number (and_word (and_word (codes "cnf") name) (codes "syntax")) at)
-cnf_line name (cnf_faults.VarRange at) = ended (and_number (and_word (and_word (codes "cnf") name) (codes "var-range")) at)
-cnf_line name (cnf_faults.Count said found) =
-    ended (and_number (and_number (and_word (and_word (codes "cnf") name) (codes "count")) said) found)
+cnf_line front cnf_faults.TooLong = ended (and_word front (codes "too-long"))
+cnf_line front (cnf_faults.Syntax at) = ended (and_number (and_word front (codes "syntax")) at)
+cnf_line front (cnf_faults.VarRange at) = ended (and_number (and_word front (codes "var-range")) at)
+cnf_line front (cnf_faults.Count said found) =
+    ended (and_number (and_number (and_word front (codes "count")) said) found)
 
--- `trace NAME FAULT`
+-- `trace NAME FAULT`, where `trace NAME` stands in front; a refusal has other words there
 abbrev pub trace_line : List ℕ → TraceFault → List ℕ
-trace_line name trace_faults.TooLong = ended (and_word (and_word (codes "trace") name) (codes "too-long"))
-trace_line name (trace_faults.Syntax at) = ended (and_number (and_word (and_word (codes "trace") name) (codes "syntax")) at)
-trace_line name (trace_faults.Repeated index) =
-    ended (and_number (and_word (and_word (codes "trace") name) (codes "repeated")) index)
-trace_line name (trace_faults.Unknown index antecedent) =
-    ended (and_number (and_number (and_word (and_word (codes "trace") name) (codes "unknown")) index) antecedent)
+trace_line front trace_faults.TooLong = ended (and_word front (codes "too-long"))
+trace_line front (trace_faults.Syntax at) = ended (and_number (and_word front (codes "syntax")) at)
+trace_line front (trace_faults.Repeated index) =
+    ended (and_number (and_word front (codes "repeated")) index)
+trace_line front (trace_faults.Unknown index antecedent) =
+    ended (and_number (and_number (and_word front (codes "unknown")) index) antecedent)
+
+-- why `check` of the bytes of a CNF and of a trace ends with a status, and the text that is due with it
+abbrev pub CheckDue : (cnf_name trace_name cnf trace : List ℕ) → Status → List ℕ → Type 0
+CheckDue cnf_name trace_name cnf trace Done text = Refuted cnf trace × (text ≡ ended (codes "verified"))
+CheckDue cnf_name trace_name cnf trace NotAccepted text =
+    (v : Verdict) × (v ≢ Refutes) × Shows cnf trace v × (text ≡ refused_line v)
+CheckDue cnf_name trace_name cnf trace BadInput text =
+    ((fault : CnfFault) × CnfTextFault cnf fault × (text ≡ cnf_line (and_word (codes "cnf") cnf_name) fault))
+    ⊎ ((fault : TraceFault) × TraceIsFaulty cnf trace fault × (text ≡ trace_line (and_word (codes "trace") trace_name) fault))
+CheckDue cnf_name trace_name cnf trace Words text = ⊥
+CheckDue cnf_name trace_name cnf trace Store text = ⊥
+CheckDue cnf_name trace_name cnf trace Sink text = ⊥
+CheckDue cnf_name trace_name cnf trace Memory text = ⊥
+CheckDue cnf_name trace_name cnf trace Differs text = ⊥
+CheckDue cnf_name trace_name cnf trace Unroutable text = ⊥
+CheckDue cnf_name trace_name cnf trace Spent text = ⊥

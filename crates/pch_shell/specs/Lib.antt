@@ -3,6 +3,11 @@ pub mod Words
 pub mod Seen
 pub mod Lines
 pub mod Endings
+pub mod Loading
 pub mod Check
 pub mod ErrorLines
+pub mod Specifications
+pub mod BundleLines
+pub mod Verifying
+pub mod Showing
 pub mod Due

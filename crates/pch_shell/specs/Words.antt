@@ -1,7 +1,12 @@
 -- The forms of words that the program knows.
-use Rattle.std.specs.Prelude.{◌≡◌, ℕ, List, [], ◌∷◌, Option, Some, None, String, string_bytes, codes, map, if◌then◌else◌}
+use Rattle.std.specs.Prelude.{ℕ, List, [], ◌∷◌, Option, Some, None, String, string_bytes, codes, map, nat_le, if◌then◌else◌}
 use Rattle.std.specs.Str.{bytes_eq}
 use Rattle.std.specs.declared.alloc.Global.{Global}
+use Rattle.text_defs.specs.Numbers.{number_in}
+use Rattle.pch_base.specs.Numbers.{at_most}
+use Rattle.fabric_defs.specs.Geometries.{GeometryValue}
+use Rattle.fabric_defs.specs.declared.limits.TheConstants.{MAX_SIDE, MAX_TRACKS}
+use Rattle.pch_shell.specs.declared.limits.TheConstants.{MAX_WORKERS}
 
 -- the words of a command line, without the program's own name
 abbrev pub words_in : List (String Global) → List (List ℕ)
@@ -11,11 +16,67 @@ words_in words = map string_bytes words
 pub data Form : Type 0 where
   -- check CNF TRACE
   check : List ℕ → List ℕ → Form
+  -- verify SPEC BUNDLE C R T I O WORKERS
+  verify : List ℕ → List ℕ → GeometryValue → ℕ → Form
+  -- cnf SPEC BUNDLE
+  show : List ℕ → List ℕ → Form
+
+-- the number, where there is one and it isn't 0
+abbrev pub at_least_one : Option ℕ → Option ℕ
+at_least_one None = None
+at_least_one (Some n) = if nat_le 1 n then Some n else None
+
+-- the number from 1 to the limit that the word spells
+abbrev pub count_in : ℕ → List ℕ → Option ℕ
+count_in limit word = at_least_one (at_most limit (number_in word))
+
+-- the fabric of these numbers, where all are there
+abbrev pub fabric_with : Option ℕ → Option ℕ → Option ℕ → Option ℕ → Option ℕ → Option GeometryValue
+fabric_with None r t i o = None
+fabric_with (Some c) None t i o = None
+fabric_with (Some c) (Some r) None i o = None
+fabric_with (Some c) (Some r) (Some t) None o = None
+fabric_with (Some c) (Some r) (Some t) (Some i) None = None
+fabric_with (Some c) (Some r) (Some t) (Some i) (Some o) =
+    Some (record { columns = c; rows = r; tracks = t; input_pads = i; output_pads = o })
+
+-- the fabric whose columns, rows, tracks, input pads and output pads the words say
+abbrev pub fabric_in : List ℕ → List ℕ → List ℕ → List ℕ → List ℕ → Option GeometryValue
+fabric_in c r t i o =
+    fabric_with (count_in MAX_SIDE c) (count_in MAX_SIDE r) (count_in MAX_TRACKS t) (count_in MAX_SIDE i) (count_in MAX_SIDE o)
+
+-- `verify` with these words, where the fabric and the number of workers are there
+abbrev pub verify_with : List ℕ → List ℕ → Option GeometryValue → Option ℕ → Option Form
+verify_with spec bundle None workers = None
+verify_with spec bundle (Some g) None = None
+verify_with spec bundle (Some g) (Some workers) = Some (verify spec bundle g workers)
+
+-- the commands of three words
+abbrev pub short_form : List ℕ → List ℕ → List ℕ → Option Form
+short_form word first second =
+    if bytes_eq word (codes "check") then Some (check first second)
+    else (if bytes_eq word (codes "cnf") then Some (show first second) else None)
+
+-- `verify` with two files and the words behind them
+abbrev pub verify_form : List ℕ → List ℕ → List (List ℕ) → Option Form
+verify_form spec bundle [] = None
+verify_form spec bundle (c ∷ []) = None
+verify_form spec bundle (c ∷ r ∷ []) = None
+verify_form spec bundle (c ∷ r ∷ t ∷ []) = None
+verify_form spec bundle (c ∷ r ∷ t ∷ i ∷ []) = None
+verify_form spec bundle (c ∷ r ∷ t ∷ i ∷ o ∷ []) = None
+verify_form spec bundle (c ∷ r ∷ t ∷ i ∷ o ∷ workers ∷ []) =
+    verify_with spec bundle (fabric_in c r t i o) (count_in MAX_WORKERS workers)
+verify_form spec bundle (c ∷ r ∷ t ∷ i ∷ o ∷ workers ∷ more ∷ rest) = None
+
+-- the commands of more than three words
+abbrev pub long_form : List ℕ → List ℕ → List ℕ → List (List ℕ) → Option Form
+long_form word spec bundle more = if bytes_eq word (codes "verify") then verify_form spec bundle more else None
 
 -- the command of these words, if they have one of the forms
 abbrev pub form_of : List (List ℕ) → Option Form
 form_of [] = None
 form_of (w ∷ []) = None
-form_of (w ∷ cnf ∷ []) = None
-form_of (w ∷ cnf ∷ trace ∷ []) = if bytes_eq w (codes "check") then Some (check cnf trace) else None
-form_of (w ∷ cnf ∷ trace ∷ more ∷ rest) = None
+form_of (w ∷ first ∷ []) = None
+form_of (w ∷ first ∷ second ∷ []) = short_form w first second
+form_of (w ∷ first ∷ second ∷ more ∷ rest) = long_form w first second (more ∷ rest)

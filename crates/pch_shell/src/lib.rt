@@ -4,10 +4,15 @@
 mod check;
 mod commands;
 mod ending;
+mod fault_lines;
+mod limits;
 mod line;
+mod shown;
+mod spec;
 mod status;
 #[cfg(test)]
 mod tests;
+mod verifying;
 mod words;
 
 pub use commands::{command, top};

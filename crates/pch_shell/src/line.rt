@@ -38,6 +38,15 @@ impl Line {
         Ok(self)
     }
 
+    /// The line with one number more, which may be a long one.
+    pub fn long_number(mut self, n: u64) -> Result<Line, NoMemory>
+        ensures { IfOk result (λ l. l ≡ and_number self n) }
+    {
+        self.text.push(b' ')?;
+        print_number(n, &mut self.text)?;
+        Ok(self)
+    }
+
     /// The line with one number more.
     pub fn number(mut self, n: u32) -> Result<Line, NoMemory>
         ensures { IfOk result (λ l. l ≡ and_number self n) }

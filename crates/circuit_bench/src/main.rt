@@ -1,0 +1,158 @@
+//! Evaluates circuits many times over and makes miters, for measuring the time from outside.
+//!
+//!     circuit_bench net SPEC TIMES
+//!     circuit_bench fabric C R T I O CONFIG TIMES
+//!     circuit_bench miter SPEC C R T I O CONFIG
+//!
+//! The inputs of each time are made by a fixed rule, and the program prints how many bits of all
+//! outputs were 1, modulo 2^64. Of a miter it prints how many clauses it has. It ends with status 1
+//! where the words have no meaning, a file can't be had, the network doesn't fit the pads or memory is
+//! wanting.
+#![tactic(auto)]
+
+mod inputs;
+mod runs;
+
+use crate::runs::{ones_of_config, ones_of_net};
+use blif_read::read_blif;
+use extract::extract;
+use fabric::{Config, Geometry, Wires};
+use fabric_bytes::read_config;
+use miter_cnf::miter;
+use netlist::{Net, Scratch, build};
+use pch_base::{print_number, read_number};
+use pch_io::{FileStore, OutSink, Sink, Store};
+use std::alloc::{AllocError, Global};
+use std::env::Env;
+use std::process::ExitCode;
+use std::{env, io};
+
+/// The most bytes of a file that is loaded.
+const MAX_BYTES: u64 = 262_144;
+
+/// The words of the command line, without the program's name.
+fn words<R: Env + AllocGlobal>(rt: &R) -> Result<Vec<String>, AllocError> {
+    match env::args(rt) {
+        Ok(args) => args.skip(1).collect(rt.alloc()),
+        Err(error) if error.kind() == io::ErrorKind::OutOfMemory => Err(AllocError),
+        Err(_) => Ok(Vec::new(rt.alloc())),
+    }
+}
+
+/// The number that a word spells, if it fits 32 bits.
+fn number(word: &str) -> Option<u32> {
+    read_number(word.as_bytes(), u64::from(u32::MAX)).map(|n| n as u32)
+}
+
+/// The geometry of five words.
+fn geometry(c: &str, r: &str, t: &str, i: &str, o: &str) -> Option<Geometry> {
+    Geometry::new(number(c)?, number(r)?, number(t)?, number(i)?, number(o)?)
+}
+
+/// The network of a file.
+fn load_net<S: Store>(alloc: Global, store: &mut S, spec: &str) -> Option<Net> {
+    let bytes = store.load(alloc, spec, MAX_BYTES).ok()?;
+    let design = read_blif(alloc, &bytes).ok()?;
+    build(alloc, &design).ok()
+}
+
+/// The configuration of a file, for this fabric.
+fn load_config<S: Store>(
+    alloc: Global,
+    store: &mut S,
+    g: Geometry,
+    config: &str,
+) -> Option<Config> {
+    let bytes = store.load(alloc, config, MAX_BYTES).ok()?;
+    read_config(alloc, g, &bytes).ok()
+}
+
+/// The ones of the network of this specification.
+fn net_ones<S: Store>(alloc: Global, store: &mut S, spec: &str, times: u64) -> Option<u64> {
+    let net = load_net(alloc, store, spec)?;
+    let mut scratch = Scratch::new(alloc, &net).ok()?;
+    Some(ones_of_net(&net, times, &mut scratch))
+}
+
+/// The ones of the configuration of these bytes.
+fn fabric_ones<S: Store>(
+    alloc: Global,
+    store: &mut S,
+    g: Geometry,
+    config: &str,
+    times: u64,
+) -> Option<u64> {
+    let config = load_config(alloc, store, g, config)?;
+    let mut wires = Wires::new(alloc, config.geometry()).ok()?;
+    Some(ones_of_config(&config, times, &mut wires))
+}
+
+/// The clauses of the miter of the specification and the configuration.
+fn miter_clauses<S: Store>(
+    alloc: Global,
+    store: &mut S,
+    spec: &str,
+    g: Geometry,
+    config: &str,
+) -> Option<u64> {
+    let net = load_net(alloc, store, spec)?;
+    let config = load_config(alloc, store, g, config)?;
+    let cells = extract(alloc, &config).ok()?;
+    let pads = cells.geometry();
+    if net.inputs() > pads.i() || net.outputs() > pads.o() {
+        return None;
+    }
+    let clauses = miter(alloc, &net, &cells).ok()?;
+    Some(u64::from(clauses.len()))
+}
+
+/// The number that the words ask for.
+fn answer<S: Store>(alloc: Global, store: &mut S, words: &[String]) -> Option<u64> {
+    match words {
+        [word, spec, times] if word.as_str() == "net" => {
+            let times = number(times.as_str())?;
+            net_ones(alloc, store, spec.as_str(), u64::from(times))
+        }
+        [word, c, r, t, i, o, config, times] if word.as_str() == "fabric" => {
+            let g = geometry(c.as_str(), r.as_str(), t.as_str(), i.as_str(), o.as_str())?;
+            let times = number(times.as_str())?;
+            fabric_ones(alloc, store, g, config.as_str(), u64::from(times))
+        }
+        [word, spec, c, r, t, i, o, config] if word.as_str() == "miter" => {
+            let g = geometry(c.as_str(), r.as_str(), t.as_str(), i.as_str(), o.as_str())?;
+            miter_clauses(alloc, store, spec.as_str(), g, config.as_str())
+        }
+        _ => None,
+    }
+}
+
+/// Writes the number as a line.
+fn put_number<O: Sink>(alloc: Global, out: &mut O, number: u64) -> Option<()> {
+    let mut line = Vec::new(alloc);
+    print_number(number, &mut line).ok()?;
+    line.push(b'\n').ok()?;
+    out.put(&line).ok()
+}
+
+/// All of it, from the words to the line.
+fn run<S: Store, O: Sink>(
+    alloc: Global,
+    words: &[String],
+    store: &mut S,
+    out: &mut O,
+) -> Option<()> {
+    let number = answer(alloc, store, words)?;
+    put_number(alloc, out, number)
+}
+
+fn main(rt: HostRuntime) -> ExitCode {
+    let Ok(words) = words(&rt) else {
+        return ExitCode::from(1);
+    };
+    let mut store = FileStore::new(&rt);
+    let mut out = OutSink::new(&rt);
+    match run(rt.alloc(), &words, &mut store, &mut out) {
+        Some(()) => ExitCode::SUCCESS,
+        None => ExitCode::from(1),
+    }
+}

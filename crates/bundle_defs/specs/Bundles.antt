@@ -1,12 +1,15 @@
 -- The bytes of a bundle: `PCHB`, the version, the five numbers of the geometry, the configuration and the trace
 -- with their lengths before them, and the digest of all before. Numbers have the more significant byte first.
-use Rattle.std.specs.Prelude.{◌≡◌, ℕ, ◌<◌, ◌^◌, List, [], ◌∷◌, ◌++◌, length}
+use Rattle.std.specs.Prelude.{◌≡◌, ℕ, ◌==◌, ◌<◌, ◌≤◌, ◌^◌, Bool, not, List, [], ◌∷◌, ◌++◌, length, if◌then◌else◌}
 use Rattle.byteorder.specs.Endian.{big_bytes}
 use Rattle.sha2.specs.Sha256.{sha256}
+use Rattle.fabric_defs.specs.declared.kind.CellKind.{CellKind}
+use Rattle.fabric_defs.specs.declared.kind.CellKind.TheVariants.{FourInputs, SixInputs}
 use Rattle.fabric_defs.specs.Geometries.{GeometryValue, IsGeometry}
 
--- a geometry, and the bytes of a configuration and of a trace
+-- a version, a geometry, and the bytes of a configuration and of a trace
 pub record BundleValue : Type 0 where
+  pub version : ℕ
   pub geometry : GeometryValue
   pub config : List ℕ
   pub trace : List ℕ
@@ -15,8 +18,16 @@ pub record BundleValue : Type 0 where
 abbrev pub magic : List ℕ
 magic = 80 ∷ 67 ∷ 72 ∷ 66 ∷ []
 
-abbrev pub version : ℕ
-version = 1
+-- versions 1 and 2 are of fabrics with cells of four inputs, version 3 of such with cells of six inputs
+abbrev pub IsVersion : ℕ → Type 0
+IsVersion v = (1 ≤ v) × (v ≤ 3)
+
+abbrev pub kind_of_version : ℕ → CellKind
+kind_of_version v = if v == 3 then SixInputs else FourInputs
+
+-- the traces of version 1 state the literals of every clause
+abbrev pub may_be_compact : ℕ → Bool
+may_be_compact v = not (v == 1)
 
 abbrev pub geometry_bytes : GeometryValue → List ℕ
 geometry_bytes g =
@@ -25,7 +36,7 @@ geometry_bytes g =
 -- all bytes before the digest
 abbrev pub body : BundleValue → List ℕ
 body v =
-    magic ++ big_bytes 2 version ++ geometry_bytes v.geometry
+    magic ++ big_bytes 2 v.version ++ geometry_bytes v.geometry
     ++ big_bytes 4 (length v.config) ++ v.config
     ++ big_bytes 4 (length v.trace) ++ v.trace
 
@@ -34,6 +45,8 @@ bundle_bytes v = body v ++ sha256 (body v)
 
 -- these bytes are the bundle of this value
 pub record BundleText (bytes : List ℕ) (v : BundleValue) : Type 0 where
+  pub version : IsVersion v.version
+  pub kind : v.geometry.kind ≡ kind_of_version v.version
   pub geometry : IsGeometry v.geometry
   pub config_within : length v.config < 2 ^ 32
   pub trace_within : length v.trace < 2 ^ 32

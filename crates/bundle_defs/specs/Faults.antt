@@ -1,9 +1,9 @@
 -- The first fault of bytes that are no bundle: the parts are judged from the front, and the digest last.
-use Rattle.std.specs.Prelude.{◌≡◌, ◌≢◌, ℕ, ◌+◌, ◌-◌, ◌<◌, ◌≤◌, ◌⊎◌, List, length, take, drop, Result, Ok, Err}
+use Rattle.std.specs.Prelude.{◌≡◌, ℕ, ◌+◌, ◌-◌, ◌<◌, ◌≤◌, ◌⊎◌, List, length, take, drop, Result, Ok, Err}
 use Rattle.byteorder.specs.Endian.{big_number}
 use Rattle.sha2.specs.Sha256.{sha256}
 use Rattle.fabric_defs.specs.Geometries.{GeometryValue, IsGeometry}
-use Rattle.bundle_defs.specs.Bundles.{BundleValue, magic, version, BundleText}
+use Rattle.bundle_defs.specs.Bundles.{BundleValue, magic, IsVersion, kind_of_version, BundleText}
 use Rattle.bundle_defs.specs.declared.faults.BundleError.{BundleError}
 use Rattle.bundle_defs.specs.declared.faults.BundleError.TheVariants.{Magic, Lengths, Version, Geometry, Digest}
 
@@ -19,6 +19,7 @@ version_in bytes = number_at 4 2 bytes
 
 abbrev pub geometry_in : List ℕ → GeometryValue
 geometry_in bytes = record {
+  kind = kind_of_version (version_in bytes);
   columns = number_at 6 2 bytes;
   rows = number_at 8 2 bytes;
   tracks = number_at 10 2 bytes;
@@ -39,11 +40,11 @@ HasItsLength bytes = length bytes ≡ 24 + config_length bytes + trace_length by
 abbrev pub HasItsDigest : List ℕ → Type 0
 HasItsDigest bytes = drop (length bytes - 32) bytes ≡ sha256 (take (length bytes - 32) bytes)
 
--- `PCHB`, the right version, and a geometry within its limits
+-- `PCHB`, one of the versions, and a geometry within its limits
 pub record HasHead (bytes : List ℕ) : Type 0 where
   pub magic : HasMagic bytes
   pub whole : 16 ≤ length bytes
-  pub version : version_in bytes ≡ version
+  pub version : IsVersion (version_in bytes)
   pub geometry : IsGeometry (geometry_in bytes)
 
 -- the value of the bytes, or their first fault
@@ -52,10 +53,10 @@ BundleOf bytes (Ok v) = BundleText bytes v
 BundleOf bytes (Err Magic) = ¬ HasMagic bytes
 BundleOf bytes (Err Lengths) =
     (HasMagic bytes × (length bytes < 6))
-    ⊎ ((HasMagic bytes × (version_in bytes ≡ version) × (6 ≤ length bytes) × (length bytes < 16))
+    ⊎ ((HasMagic bytes × IsVersion (version_in bytes) × (6 ≤ length bytes) × (length bytes < 16))
     ⊎ (HasHead bytes × ¬ HasItsLength bytes))
 BundleOf bytes (Err (Version found)) =
-    HasMagic bytes × (6 ≤ length bytes) × (found ≡ version_in bytes) × (found ≢ version)
+    HasMagic bytes × (6 ≤ length bytes) × (found ≡ version_in bytes) × ¬ IsVersion found
 BundleOf bytes (Err Geometry) =
-    HasMagic bytes × (16 ≤ length bytes) × (version_in bytes ≡ version) × ¬ IsGeometry (geometry_in bytes)
+    HasMagic bytes × (16 ≤ length bytes) × IsVersion (version_in bytes) × ¬ IsGeometry (geometry_in bytes)
 BundleOf bytes (Err Digest) = HasHead bytes × HasItsLength bytes × ¬ HasItsDigest bytes

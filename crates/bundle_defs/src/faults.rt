@@ -5,7 +5,7 @@ pub enum BundleError {
     Magic,
     /// There are too few bytes for the head, or not exactly as many as both lengths demand.
     Lengths,
-    /// The version isn't 1.
+    /// The version is none of 1, 2 and 3.
     Version { found: u32 },
     /// A number of the geometry is outside its limits.
     Geometry,

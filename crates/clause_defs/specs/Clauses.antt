@@ -1,5 +1,5 @@
 -- A clause is a finite set of literals, and an assignment a list of bits, one per variable. (DIMACS CNF)
-use Rattle.std.specs.Prelude.{◌≡◌, ℕ, ◌-◌, ◌<◌, ◌≤◌, ◌↔◌, ◌⊎◌, List, [], ◌∷◌, length, slice_get, Some, if◌then◌else◌}
+use Rattle.std.specs.Prelude.{◌≡◌, ℕ, ◌-◌, ◌==◌, nat_lt, ◌<◌, ◌≤◌, ◌↔◌, ◌⊎◌, List, [], ◌∷◌, length, slice_get, Some, if◌then◌else◌}
 use Rattle.clause_defs.specs.Literals.{Literal, code, IsLiteral}
 
 -- the literals of a clause, in any order and repeated or not
@@ -28,6 +28,17 @@ IsOrdered (l ∷ ls) = ((m : Literal) → Has ls m → code l < code m) × IsOrd
 pub record IsClause (c : Lits) : Type 0 where
   pub literals : (l : Literal) → Has c l → IsLiteral l
   pub ordered : IsOrdered c
+
+-- the literals in their order with one more, which may be there already
+abbrev pub with_literal : Literal → Lits → Lits
+with_literal l [] = l ∷ []
+with_literal l (m ∷ ms) =
+    if nat_lt (code l) (code m) then (l ∷ m ∷ ms) else (if code l == code m then (m ∷ ms) else (m ∷ with_literal l ms))
+
+-- the clause that has these literals: each once, in their order
+abbrev pub clause_of : Lits → Lits
+clause_of [] = []
+clause_of (l ∷ ls) = with_literal l (clause_of ls)
 
 -- no literal has a greater variable
 abbrev pub WithinVariables : ℕ → Lits → Type 0

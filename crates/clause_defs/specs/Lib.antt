@@ -1,5 +1,7 @@
 pub mod Literals
 pub mod Clauses
+pub mod Formulas
 pub mod Resolution
 pub mod Traces
+pub mod TraceClauses
 pub mod Verdicts

@@ -7,6 +7,10 @@ pub const MAX_INDEX: u32 = 2_147_483_647;
 /// The greatest number of clauses that a list of clauses or a trace may have.
 pub const MAX_CLAUSES: u32 = 2_147_483_647;
 
+/// How many literals the clauses of a trace whose literals aren't stated may have together, wherever
+/// the program checks a trace.
+pub const MAX_COMPUTED: u32 = 67_108_864;
+
 /// The first faulty step of a chain, or that its result isn't the stated clause.
 ///
 /// `clause` is the index that the trace gives the clause. Step `i` resolves the running clause with
@@ -30,6 +34,9 @@ pub enum Verdict {
     NotOriginal { clause: u32 },
     /// The chain of a clause is faulty.
     Chain(ChainError),
+    /// The clauses up to this one whose literals aren't stated have more literals together than the
+    /// limit allows.
+    TooWide { clause: u32 },
     /// No clause is faulty, and there is no clause or the last one isn't empty.
     NotEmptyEnd,
 }

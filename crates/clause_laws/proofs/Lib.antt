@@ -2,3 +2,4 @@ pub mod LiteralLemmas
 pub mod ClauseLemmas
 pub mod Soundness
 pub mod Uniqueness
+pub mod ClauseOf

@@ -1,5 +1,5 @@
 ghost use Rattle.std.specs.Prelude.{◌≡◌, ◌≢◌, ℕ, List, [], map, Result};
-ghost use Rattle.clause_defs.specs.Clauses.{Lits, SameSet, HasClause, IsOrdered, Unsat};
+ghost use Rattle.clause_defs.specs.Clauses.{Lits, SameSet, HasClause, IsOrdered, Unsat, clause_of};
 ghost use Rattle.clause_defs.specs.Resolution.{Resolves};
 ghost use Rattle.clause_defs.specs.Traces.{Entry, AntecedentsAreEarlier, lits_at, antecedents_at};
 ghost use Rattle.clause_defs.specs.Verdicts.{ChainFault, ClauseFault, VerdictOf};
@@ -39,4 +39,11 @@ pub fn refutation_is_sound()
 /// A trace shows one thing of a list.
 pub fn verdict_is_unique()
     ensures { (f : List Lits) (t : List Entry) (v w : Verdict) → VerdictOf f t v → VerdictOf f t w → v ≡ w }
+{}
+
+/// The clause of a list of literals is the ordered list with the same literals.
+pub fn clause_of_a_list()
+    ensures ordered { (ls : Lits) → IsOrdered (clause_of ls) }
+    ensures same { (ls : Lits) → SameSet (clause_of ls) ls }
+    ensures one { (c ls : Lits) → IsOrdered c → SameSet c ls → c ≡ clause_of ls }
 {}

@@ -7,6 +7,7 @@
 mod laws;
 
 pub use laws::{
-    chain_end_is_unique, clauses_with_the_same_literals_are_equal, derived_clause_resolves,
-    original_clause_is_in_the_list, refutation_is_sound, verdict_is_unique,
+    chain_end_is_unique, clause_of_a_list, clauses_with_the_same_literals_are_equal,
+    derived_clause_resolves, original_clause_is_in_the_list, refutation_is_sound,
+    verdict_is_unique,
 };

@@ -1,8 +1,9 @@
 -- Configurations: the words of a fabric, each in its range, and the bytes that spell them.
-use Rattle.std.specs.Prelude.{◌≡◌, ◌≢◌, ℕ, ◌+◌, ◌*◌, ◌<◌, ◌≤◌, List, length, slice_index, Result, Ok, Err}
+use Rattle.std.specs.Prelude.{◌≡◌, ◌≢◌, ℕ, ◌+◌, ◌*◌, ◌^◌, ◌<◌, ◌≤◌, List, [], ◌∷◌, length, slice_index, Result, Ok, Err}
 use Rattle.std.specs.List.{AllZip}
-use Rattle.fabric_defs.specs.Geometries.{GeometryValue, IsGeometry, pin_count}
-use Rattle.fabric_defs.specs.Layout.{word_count, cell_place, channel_place, output_place, limits}
+use Rattle.fabric_defs.specs.Numbered.{list_of}
+use Rattle.fabric_defs.specs.Geometries.{GeometryValue, IsGeometry}
+use Rattle.fabric_defs.specs.Layout.{word_count, table_words, cell_place, table_place, channel_place, output_place, limits}
 use Rattle.fabric_defs.specs.declared.faults.ConfigError.{ConfigError}
 use Rattle.fabric_defs.specs.declared.faults.ConfigError.TheVariants.{Length, Selector, NoMemory}
 
@@ -18,9 +19,19 @@ first_word k t = slice_index k.words t
 abbrev pub pin_word : ConfigValue → ℕ → ℕ → ℕ → ℕ
 pin_word k column row pin = slice_index k.words (cell_place k.geometry column row + pin)
 
+-- the number that words spell behind n, the most significant word first
+abbrev pub number_behind : ℕ → List ℕ → ℕ
+number_behind n [] = n
+number_behind n (w ∷ ws) = number_behind (n * 2 ^ 16 + w) ws
+
+-- the words of the table of the cell at a column and a row
+abbrev pub table_words_at : ConfigValue → ℕ → ℕ → List ℕ
+table_words_at k column row =
+    list_of (table_words k.geometry) (λ j. slice_index k.words (table_place k.geometry column row + j))
+
 -- the table of the cell at a column and a row, whose bits count from the least significant one
 abbrev pub table : ConfigValue → ℕ → ℕ → ℕ
-table k column row = slice_index k.words (cell_place k.geometry column row + pin_count k.geometry)
+table k column row = number_behind 0 (table_words_at k column row)
 
 -- the word of track t of the channel after a column
 abbrev pub track_word : ConfigValue → ℕ → ℕ → ℕ

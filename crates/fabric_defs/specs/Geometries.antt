@@ -1,9 +1,12 @@
--- The numbers of a fabric: columns of rows of cells, a channel of tracks before each column and after the
+-- The numbers of a fabric, and the kind of its cells: columns of rows of cells, a channel of tracks before each column and after the
 -- last one, and pads for inputs and outputs.
 use Rattle.std.specs.Prelude.{ℕ, ◌+◌, ◌*◌, ◌^◌, ◌≤◌}
 use Rattle.fabric_defs.specs.declared.limits.TheConstants.{MAX_SIDE, MAX_TRACKS}
+use Rattle.fabric_defs.specs.declared.kind.CellKind.{CellKind}
+use Rattle.fabric_defs.specs.declared.kind.CellKind.TheVariants.{FourInputs, SixInputs}
 
 pub record GeometryValue : Type 0 where
+  pub kind : CellKind
   pub columns : ℕ
   pub rows : ℕ
   pub tracks : ℕ
@@ -22,9 +25,23 @@ pub record IsGeometry (g : GeometryValue) : Type 0 where
   pub some_output_pads : 1 ≤ g.output_pads
   pub output_pads : g.output_pads ≤ MAX_SIDE
 
+-- the number of a kind
+abbrev pub kind_number : CellKind → ℕ
+kind_number FourInputs = 1
+kind_number SixInputs = 2
+
+abbrev pub pins_of : CellKind → ℕ
+pins_of FourInputs = 4
+pins_of SixInputs = 6
+
+-- the words of a cell's table
+abbrev pub table_words_of : CellKind → ℕ
+table_words_of FourInputs = 1
+table_words_of SixInputs = 4
+
 -- the pins of a cell
 abbrev pub pin_count : GeometryValue → ℕ
-pin_count g = 4
+pin_count g = pins_of g.kind
 
 -- the bits of a cell's table: one for each list of bits at its pins
 abbrev pub table_bits : GeometryValue → ℕ

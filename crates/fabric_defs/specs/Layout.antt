@@ -3,12 +3,12 @@
 -- tracks of the channel after it; the output pads.
 use Rattle.std.specs.Prelude.{ℕ, ◌+◌, ◌*◌, List, ◌++◌}
 use Rattle.fabric_defs.specs.Numbered.{list_of, joined}
-use Rattle.fabric_defs.specs.Geometries.{GeometryValue, pin_count}
+use Rattle.fabric_defs.specs.Geometries.{GeometryValue, pin_count, table_words_of}
 use Rattle.fabric_defs.specs.declared.limits.TheConstants.{MAX_WORD}
 
 -- the words of a table
 abbrev pub table_words : GeometryValue → ℕ
-table_words g = 1
+table_words g = table_words_of g.kind
 
 abbrev pub cell_words : GeometryValue → ℕ
 cell_words g = pin_count g + table_words g
@@ -23,9 +23,13 @@ word_count g = g.tracks + g.columns * column_words g + g.output_pads
 abbrev pub column_place : GeometryValue → ℕ → ℕ
 column_place g column = g.tracks + column * column_words g
 
--- the place of the first word of a cell
+-- the place of the first word of a cell: its pins, and then its table
 abbrev pub cell_place : GeometryValue → ℕ → ℕ → ℕ
 cell_place g column row = column_place g column + row * cell_words g
+
+-- the place of the first word of a cell's table
+abbrev pub table_place : GeometryValue → ℕ → ℕ → ℕ
+table_place g column row = cell_place g column row + pin_count g
 
 -- the place of the first word of the channel after a column
 abbrev pub channel_place : GeometryValue → ℕ → ℕ

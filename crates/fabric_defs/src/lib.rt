@@ -6,7 +6,9 @@
 #![tactic(auto)]
 
 mod faults;
+mod kind;
 mod limits;
 
 pub use faults::ConfigError;
+pub use kind::CellKind;
 pub use limits::{MAX_SIDE, MAX_TRACKS, MAX_WORD};

@@ -1,7 +1,7 @@
 -- What is made of the miter's clauses.
 use Rattle.std.proofs.Common.{◌≡◌, ℕ, ◌≤◌, List, length, Result, Ok, Err, IfOk, subst, ◌∙◌}
 use Rattle.clause_defs.specs.Clauses.{Lits, Unsat}
-use Rattle.sat_text_defs.specs.CnfText.{Formula}
+use Rattle.clause_defs.specs.Formulas.{Formula}
 use Rattle.net_defs.specs.Networks.{Network}
 use Rattle.net_defs.specs.Nets.{IsNet}
 use Rattle.fabric_defs.specs.Geometries.{GeometryValue}

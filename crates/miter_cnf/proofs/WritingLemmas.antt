@@ -1,8 +1,7 @@
 -- Clauses that are written one after another.
 use Rattle.std.proofs.Common.{◌≡◌, ℕ, ◌+◌, List, [], ◌∷◌, ◌++◌, map, ap, sym, subst, ◌∙◌, append_assoc}
 use Rattle.std.proofs.lemmas.List.{append-nil, map-append}
-use Rattle.clause_defs.specs.Clauses.{Lits}
-use Rattle.sat_text_defs.specs.Spellings.{clause_of}
+use Rattle.clause_defs.specs.Clauses.{Lits, clause_of}
 use Rattle.fabric_defs.specs.Numbered.{list_of, joined}
 use Rattle.fabric_laws.proofs.NumberedLemmas.{list_of-more, joined-more}
 use Rattle.miter_cnf.specs.Writing.{Adds}

@@ -1,7 +1,6 @@
 -- Clauses that are written one after another, each as the set of its literals.
 use Rattle.std.specs.Prelude.{◌≡◌, List, ◌++◌, map}
-use Rattle.clause_defs.specs.Clauses.{Lits}
-use Rattle.sat_text_defs.specs.Spellings.{clause_of}
+use Rattle.clause_defs.specs.Clauses.{Lits, clause_of}
 
 -- behind the old clauses stand these, and no others
 abbrev pub Adds : List Lits → List Lits → List Lits → Type 0

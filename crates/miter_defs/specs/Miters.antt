@@ -2,9 +2,8 @@
 use Rattle.std.specs.Prelude.{ℕ, ◌==◌, Bool, true, false, not, List, [], ◌∷◌, ◌++◌, length, map, slice_index_or, if◌then◌else◌}
 use Rattle.std.specs.Int.{bit_at}
 use Rattle.clause_defs.specs.Literals.{Literal, negation}
-use Rattle.clause_defs.specs.Clauses.{Lits}
-use Rattle.sat_text_defs.specs.Spellings.{clause_of}
-use Rattle.sat_text_defs.specs.CnfText.{Formula}
+use Rattle.clause_defs.specs.Clauses.{Lits, clause_of}
+use Rattle.clause_defs.specs.Formulas.{Formula}
 use Rattle.blif_defs.specs.declared.mark.Mark.{Mark}
 use Rattle.blif_defs.specs.declared.mark.Mark.TheVariants.{Zero, One, Any}
 use Rattle.net_defs.specs.Networks.{Output, Network, node_at}

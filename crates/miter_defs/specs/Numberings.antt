@@ -1,12 +1,12 @@
 -- The variables of the miter, from 1 in this order: zero; the inputs and the nodes of the network; its rows, by
 -- node and then by row; the cells of the cone, by number; the differences of the outputs.
-use Rattle.std.specs.Prelude.{ℕ, ◌+◌, length, take, sum_by, nat_lt, if◌then◌else◌}
+use Rattle.std.specs.Prelude.{ℕ, ◌+◌, Bool, length, take, sum_by, nat_lt, if◌then◌else◌}
 use Rattle.std.specs.List.{count_by}
 use Rattle.net_defs.specs.Networks.{Node, Network, signals}
 use Rattle.net_defs.specs.Nets.{row_count}
 use Rattle.cell_defs.specs.declared.source.Source.{Source}
 use Rattle.cell_defs.specs.declared.source.Source.TheVariants.{Zero, Pad, Cell}
-use Rattle.cell_defs.specs.Cells.{CellValue, CellsValue}
+use Rattle.cell_defs.specs.Cells.{CellsValue}
 
 -- the variable that is false
 abbrev pub zero_variable : ℕ
@@ -29,10 +29,10 @@ row_variable net v r = 2 + signals net + rows_before net v + r
 
 -- how many cells of the cone have a lower number
 abbrev pub cone_before : CellsValue → ℕ → ℕ
-cone_before l k = count_by (λ (cell : CellValue). cell.in_cone) (take k l.cells)
+cone_before l k = count_by (λ (inside : Bool). inside) (take k l.cone)
 
 abbrev pub cone_size : CellsValue → ℕ
-cone_size l = count_by (λ (cell : CellValue). cell.in_cone) l.cells
+cone_size l = count_by (λ (inside : Bool). inside) l.cone
 
 -- cell k of the cone
 abbrev pub cell_variable : Network → CellsValue → ℕ → ℕ

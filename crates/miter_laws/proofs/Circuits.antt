@@ -4,9 +4,8 @@ use Rattle.std.specs.List.{list_any}
 use Rattle.std.proofs.lemmas.Bool.{cases_Bool, both_ways}
 use Rattle.std.proofs.lemmas.List.{length-map, get_or-map, get_or_default}
 use Rattle.std.proofs.lemmas.List.Folds.{Any-from_list_any, list_any_at}
-use Rattle.clause_defs.specs.Clauses.{Lits, Has, Satisfies}
-use Rattle.sat_text_defs.specs.Spellings.{clause_of}
-use Rattle.sat_text_defs.proofs.ClauseOf.{SameSet-clause_of}
+use Rattle.clause_defs.specs.Clauses.{Lits, Has, Satisfies, clause_of}
+use Rattle.clause_laws.proofs.ClauseOf.{SameSet-clause_of}
 use Rattle.net_defs.specs.Networks.{Network, no_node, node_at, signals}
 use Rattle.net_defs.specs.Evaluation.{some_row_hits, hits, bits_at, Settles}
 use Rattle.net_defs.specs.Nets.{IsNet}

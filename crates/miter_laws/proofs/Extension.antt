@@ -2,8 +2,7 @@
 use Rattle.std.proofs.Common.{◌≡◌, ◌≢◌, ℕ, ◌<◌, ◌≤◌, ◌⊎◌, inl, inr, true, List, [], ◌∷◌, ◌++◌, length, take, get_or, Some, refl, ap, sym, ◌∙◌, arith}
 use Rattle.std.proofs.lemmas.Bool.{cases_eq, ne_eqb}
 use Rattle.std.proofs.lemmas.List.{length-map, length-take, get_or-map, get_or-take, same_lists}
-use Rattle.clause_defs.specs.Clauses.{Satisfies, Unsat}
-use Rattle.sat_text_defs.specs.Spellings.{clause_of}
+use Rattle.clause_defs.specs.Clauses.{Satisfies, Unsat, clause_of}
 use Rattle.net_defs.specs.Networks.{Output, Network}
 use Rattle.net_defs.specs.Evaluation.{bits_at, output_signals, Settles}
 use Rattle.net_defs.specs.Nets.{IsNet}

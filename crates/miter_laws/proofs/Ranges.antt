@@ -8,9 +8,8 @@ use Rattle.blif_defs.specs.declared.mark.Mark.{Mark}
 use Rattle.blif_defs.specs.declared.mark.Mark.TheVariants.{Zero, One, Any}
 use Rattle.clause_defs.specs.declared.verdict.TheConstants.{MAX_VARIABLE}
 use Rattle.clause_defs.specs.Literals.{Literal, negation}
-use Rattle.clause_defs.specs.Clauses.{Lits, Has, IsOrdered, IsClause}
-use Rattle.sat_text_defs.specs.Spellings.{clause_of}
-use Rattle.sat_text_defs.proofs.ClauseOf.{IsOrdered-clause_of, SameSet-clause_of}
+use Rattle.clause_defs.specs.Clauses.{Lits, Has, IsOrdered, IsClause, clause_of}
+use Rattle.clause_laws.proofs.ClauseOf.{IsOrdered-clause_of, SameSet-clause_of}
 use Rattle.net_defs.specs.Networks.{Node, Network, no_node, node_at, signals}
 use Rattle.net_defs.specs.Nets.{row_count, rows_size, IsNet}
 use Rattle.fabric_defs.specs.Numbered.{list_of, joined}

@@ -1,7 +1,6 @@
 -- An input of the network, extended to an assignment of the miter's variables.
 use Rattle.std.specs.Prelude.{◌≡◌, ◌≢◌, ℕ, ◌-◌, ◌<◌, List, length, map, take, slice_get, slice_index, Some}
-use Rattle.clause_defs.specs.Clauses.{Lits, Has, IsAssignment, Satisfies}
-use Rattle.sat_text_defs.specs.Spellings.{clause_of}
+use Rattle.clause_defs.specs.Clauses.{Lits, Has, IsAssignment, Satisfies, clause_of}
 use Rattle.net_defs.specs.Networks.{Network}
 use Rattle.net_defs.specs.Evaluation.{SpecOut}
 use Rattle.cell_defs.specs.Cells.{CellsValue}

@@ -7,7 +7,7 @@ use Rattle.clause_defs.specs.declared.verdict.Verdict.{Verdict}
 use Rattle.clause_defs.specs.declared.verdict.Verdict.TheVariants.{Refutes}
 use Rattle.sat_text_defs.specs.declared.fault.CnfFault.TheVariants as cnf_faults
 use Rattle.sat_text_defs.specs.declared.fault.TraceFault.TheVariants as trace_faults
-use Rattle.sat_text_defs.specs.CnfText.{Formula}
+use Rattle.clause_defs.specs.Formulas.{Formula}
 use Rattle.sat_text_defs.specs.CnfReading.{cnf_in}
 use Rattle.sat_text_defs.specs.TraceReading.{trace_in}
 use Rattle.sat_text.specs.Answers.{FailsCnf, FailsTrace}
@@ -15,10 +15,10 @@ use Rattle.sat_text.specs.declared.errors.CnfError.{CnfError}
 use Rattle.sat_text.specs.declared.errors.CnfError.TheVariants as cnf_errors
 use Rattle.sat_text.specs.declared.errors.TraceError.{TraceError}
 use Rattle.sat_text.specs.declared.errors.TraceError.TheVariants as trace_errors
-use Rattle.sat_text_laws.proofs.TraceReads.{trace_in-text}
-use Rattle.sat_text_laws.proofs.TraceFaults.{trace_in-fault}
-use Rattle.cnf_laws.proofs.ValueLemmas.{text_of_cnf_in}
-use Rattle.cnf_laws.proofs.FaultLemmas.{fault_of_cnf_in}
+use Rattle.trace_text_laws.proofs.TraceReads.{trace_in-text}
+use Rattle.trace_text_laws.proofs.TraceFaults.{trace_in-fault}
+use Rattle.cnf_text_laws.proofs.ValueLemmas.{text_of_cnf_in}
+use Rattle.cnf_text_laws.proofs.FaultLemmas.{fault_of_cnf_in}
 use Rattle.pch_shell.specs.Lines.{and_word, ended}
 use Rattle.pch_shell.specs.Check.{refused_line, CheckDue}
 use Rattle.pch_shell.specs.ErrorLines.{cnf_error_line, trace_error_line}

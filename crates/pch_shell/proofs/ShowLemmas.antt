@@ -6,7 +6,7 @@ use Rattle.clause_defs.specs.Clauses.{Lits}
 use Rattle.net_defs.specs.Networks.{Network}
 use Rattle.cell_defs.specs.Cells.{CellsValue}
 use Rattle.sat_text.specs.Printed.{cnf_text}
-use Rattle.sat_text_defs.specs.CnfText.{Formula}
+use Rattle.clause_defs.specs.Formulas.{Formula}
 use Rattle.miter_defs.specs.Miters.{Miter}
 use Rattle.pch_shell.specs.Specifications.{HasNetwork, IsSpecFault, spec_line}
 use Rattle.pch_shell.specs.Showing.{HasCellsFor, IsShowFault, FailsShow, show_line, ShowDue}

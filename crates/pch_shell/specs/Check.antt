@@ -10,9 +10,9 @@ use Rattle.sat_text_defs.specs.declared.fault.CnfFault.{CnfFault}
 use Rattle.sat_text_defs.specs.declared.fault.CnfFault.TheVariants as cnf_faults
 use Rattle.sat_text_defs.specs.declared.fault.TraceFault.{TraceFault}
 use Rattle.sat_text_defs.specs.declared.fault.TraceFault.TheVariants as trace_faults
-use Rattle.sat_text_defs.specs.CnfText.{Formula}
+use Rattle.clause_defs.specs.Formulas.{Formula}
 use Rattle.sat_text_defs.specs.TraceText.{TraceText, TraceTextFault}
-use Rattle.cnf_laws.specs.CnfGrammar.{CnfText, CnfTextFault}
+use Rattle.cnf_text_laws.specs.CnfGrammar.{CnfText, CnfTextFault}
 use Rattle.pch_shell.specs.Lines.{and_word, and_number, ended}
 use Rattle.pch_shell.specs.declared.status.Status.{Status}
 use Rattle.pch_shell.specs.declared.status.Status.TheVariants.{Done, NotAccepted, Words, Store, Sink, Memory, Differs, Unroutable, Spent, BadInput}

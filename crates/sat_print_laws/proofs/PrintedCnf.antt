@@ -10,11 +10,12 @@ use Rattle.sat_text_defs.specs.declared.fault.TheConstants.{MAX_CNF_BYTES}
 use Rattle.sat_text_defs.specs.declared.fault.CnfFault.{CnfFault}
 use Rattle.sat_text_defs.specs.Words.{separates}
 use Rattle.sat_text_defs.specs.TraceReading.{◌>>=◌}
-use Rattle.sat_text_defs.specs.CnfText.{Formula, first, later, uncommented, tokens_of}
+use Rattle.sat_text_defs.specs.CnfText.{first, later, uncommented, tokens_of}
+use Rattle.clause_defs.specs.Formulas.{Formula}
 use Rattle.sat_text_defs.specs.CnfReading.{Header, header_in, clauses_from, counted, cnf_from, header_line, cnf_in}
 use Rattle.sat_values.specs.ClauseLists.{AreClausesOver}
 use Rattle.sat_text.specs.Printed.{line_of, cnf_text}
-use Rattle.cnf_laws.proofs.WordLemmas.{word_number}
+use Rattle.cnf_text_laws.proofs.WordLemmas.{word_number}
 use Rattle.sat_print_laws.proofs.WordBytes.{IsWord-decimal, length-word}
 use Rattle.sat_print_laws.proofs.PrintedLines.{Keeps, Keeps-append, Keeps-later, lines_keep, clauses_from-lines}
 use Rattle.sat_print_laws.proofs.PrintedHeader.{header_end, header_tokens, tokens-header, line_end-header, header_in-header}

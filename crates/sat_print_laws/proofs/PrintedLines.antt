@@ -4,18 +4,17 @@ use Rattle.std.specs.List.{flat_map}
 use Rattle.std.proofs.lemmas.List.{append-nil}
 use Rattle.std.proofs.lemmas.Bool.{le-leb, ne_eqb}
 use Rattle.clause_defs.specs.Literals.{Literal, IsLiteral}
-use Rattle.clause_defs.specs.Clauses.{Lits, Has, IsClause, WithinVariables}
+use Rattle.clause_defs.specs.Clauses.{Lits, Has, IsClause, WithinVariables, clause_of}
 use Rattle.clause_laws.proofs.ClauseLemmas.{same_refl}
 use Rattle.text_defs.specs.Tokens.{tokens}
 use Rattle.text_defs.proofs.TokenLemmas.{NoneSeparates}
 use Rattle.sat_text_defs.specs.declared.fault.CnfFault.{CnfFault}
 use Rattle.sat_text_defs.specs.Words.{separates, literal_word}
-use Rattle.sat_text_defs.specs.Spellings.{clause_of}
 use Rattle.sat_text_defs.specs.CnfText.{Place, first, later, uncommented}
 use Rattle.sat_text_defs.specs.CnfReading.{clauses_from}
-use Rattle.sat_text_defs.proofs.ClauseOf.{clause_of-ordered}
+use Rattle.clause_laws.proofs.ClauseOf.{clause_of-ordered}
 use Rattle.sat_text.specs.Printed.{literal_text, line_of}
-use Rattle.sat_text_laws.proofs.TraceWords.{word_literal, literal_nonzero}
+use Rattle.trace_text_laws.proofs.TraceWords.{word_literal, literal_nonzero}
 use Rattle.sat_print_laws.proofs.WordBytes.{IsWord, IsWord-literal, IsWord-zero}
 use Rattle.sat_print_laws.proofs.PrintedWords.{Reads, Passes, Passes-append, Passes-blank, Passes-line_feed, by_tokens}
 

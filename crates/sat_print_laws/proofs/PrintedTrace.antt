@@ -5,19 +5,18 @@ use Rattle.std.proofs.lemmas.List.{append-nil}
 use Rattle.std.proofs.lemmas.Bool.{le-ltb}
 use Rattle.clause_defs.specs.declared.verdict.TheConstants.{MAX_INDEX}
 use Rattle.clause_defs.specs.Literals.{Literal, IsLiteral}
-use Rattle.clause_defs.specs.Clauses.{Lits, Has, IsClause}
-use Rattle.clause_defs.specs.Traces.{Entry, IsTrace, index_at, lits_at, antecedents_at, index_of, lits_of, antecedents_of}
+use Rattle.clause_defs.specs.Clauses.{Lits, Has, IsClause, clause_of}
+use Rattle.clause_defs.specs.Traces.{Entry, IsTrace, index_at, lits_at, antecedents_at, index_of, lits_of, antecedents_of, place_of}
 use Rattle.clause_laws.proofs.ClauseLemmas.{same_refl}
 use Rattle.text_defs.specs.Tokens.{tokens}
 use Rattle.sat_text_defs.specs.declared.fault.TheConstants.{MAX_TRACE_BYTES}
 use Rattle.sat_text_defs.specs.declared.fault.TraceFault.{TraceFault}
 use Rattle.sat_text_defs.specs.Words.{separates, literal_word}
-use Rattle.sat_text_defs.specs.Spellings.{clause_of}
-use Rattle.sat_text_defs.specs.TraceReading.{place_of, places_from, indices_of, judged, trace_from, trace_in, Part, start, among_lits, among_antecedents}
-use Rattle.sat_text_defs.proofs.ClauseOf.{clause_of-ordered}
+use Rattle.sat_text_defs.specs.TraceReading.{places_from, indices_of, judged, trace_from, trace_in, Part, start, among_lits, among_antecedents}
+use Rattle.clause_laws.proofs.ClauseOf.{clause_of-ordered}
 use Rattle.sat_text.specs.Printed.{number_text, literal_text, trace_line, trace_text}
-use Rattle.sat_text_laws.proofs.TraceWords.{word_index, index_nonzero, word_literal, literal_nonzero}
-use Rattle.sat_text_laws.proofs.Places.{place_from-found, place_from-none}
+use Rattle.trace_text_laws.proofs.TraceWords.{word_index, index_nonzero, word_literal, literal_nonzero}
+use Rattle.trace_text_laws.proofs.Places.{place_from-found, place_from-none}
 use Rattle.sat_print_laws.proofs.WordBytes.{IsWord-decimal, IsWord-literal, IsWord-zero}
 use Rattle.sat_print_laws.proofs.PrintedWords.{Reads, Passes, Passes-append, Passes-blank, Passes-line_feed, by_tokens}
 

@@ -3,12 +3,12 @@ use Rattle.std.proofs.Common.{◌≡◌, ℕ, ◌≤◌, List, [], ◌∷◌, le
 use Rattle.clause_defs.specs.Clauses.{Lits, Has, IsClause, WithinVariables}
 use Rattle.clause_defs.specs.Traces.{Entry}
 use Rattle.sat_text_defs.specs.declared.fault.TheConstants.{MAX_CNF_BYTES, MAX_TRACE_BYTES}
-use Rattle.sat_text_defs.specs.CnfText.{Formula}
+use Rattle.clause_defs.specs.Formulas.{Formula}
 use Rattle.sat_text_defs.specs.CnfReading.{cnf_in}
 use Rattle.sat_text_defs.specs.TraceReading.{trace_in}
-use Rattle.sat_text_laws.proofs.TraceReads.{trace_in-text as text_of_trace_in}
-use Rattle.cnf_laws.specs.CnfGrammar.{AreSpelled, CnfText}
-use Rattle.cnf_laws.proofs.ValueLemmas.{text_of_cnf_in}
+use Rattle.trace_text_laws.proofs.TraceReads.{trace_in-text as text_of_trace_in}
+use Rattle.cnf_text_laws.specs.CnfGrammar.{AreSpelled, CnfText}
+use Rattle.cnf_text_laws.proofs.ValueLemmas.{text_of_cnf_in}
 use Rattle.sat_values.specs.ClauseLists.{AreClausesOver}
 use Rattle.sat_text.specs.Printed.{cnf_text, trace_text}
 use Rattle.sat_print_laws.proofs.PrintedCnf.{cnf_in-text}

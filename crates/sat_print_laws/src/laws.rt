@@ -1,7 +1,7 @@
 ghost use Rattle.std.specs.Prelude.{◌≡◌, ℕ, ◌≤◌, List, length, Ok};
 ghost use Rattle.clause_defs.specs.Traces.{Entry, IsTrace};
 ghost use Rattle.sat_text_defs.specs.CnfReading.{cnf_in};
-ghost use Rattle.sat_text_defs.specs.CnfText.{Formula};
+ghost use Rattle.clause_defs.specs.Formulas.{Formula};
 ghost use Rattle.sat_text_defs.specs.TraceReading.{trace_in};
 ghost use Rattle.sat_text_defs.specs.declared.fault.TheConstants.{MAX_CNF_BYTES, MAX_TRACE_BYTES};
 ghost use Rattle.sat_values.specs.ClauseLists.{AreClausesOver};

@@ -1,8 +1,8 @@
 -- What the trace keeps when a judged clause is appended.
 use Rattle.std.proofs.Common.{◌≡◌, ◌≢◌, ℕ, zero, suc, ◌<◌, List, [], ◌∷◌, length, get_or, None, Ok, refl, sym, ap, ◌∙◌, arith}
 use Rattle.clause_defs.specs.Clauses.{Has}
-use Rattle.clause_defs.specs.Traces.{Entry, index_at}
-use Rattle.sat_text_defs.specs.TraceReading.{place_of, places_from, indices_of}
+use Rattle.clause_defs.specs.Traces.{Entry, index_at, place_of}
+use Rattle.sat_text_defs.specs.TraceReading.{places_from, indices_of}
 use Rattle.trace_places.proofs.PlaceLemmas.{place_of-none, places_from-below}
 
 index_at-indices : (t : List Entry) (k : ℕ) → index_at t k ≡ get_or (indices_of t) k 0

@@ -5,7 +5,7 @@ use Rattle.clause_defs.specs.Literals.{Literal}
 use Rattle.clause_defs.specs.Clauses.{Lits}
 use Rattle.clause_defs.specs.Traces.{Entry, index_at}
 use Rattle.sat_text_defs.specs.Words.{literal_word}
-use Rattle.sat_text_defs.specs.CnfText.{Formula}
+use Rattle.clause_defs.specs.Formulas.{Formula}
 
 -- a number or a literal, and a blank behind it
 abbrev pub number_text : ℕ → List ℕ

@@ -1,6 +1,6 @@
 -- A CNF that was read.
 use Rattle.sat_values.specs.declared.cnf.Cnf.{Cnf}
-use Rattle.sat_text_defs.specs.CnfText.{Formula}
+use Rattle.clause_defs.specs.Formulas.{Formula}
 
 abbrev pub formula_of : Cnf → Formula
 formula_of c = record { variables = c.variables; clauses = c.clauses }

@@ -1,6 +1,5 @@
 ghost use Rattle.std.specs.Prelude.{◌≡◌};
-ghost use Rattle.clause_defs.specs.Clauses.{IsOrdered};
-ghost use Rattle.sat_text_defs.specs.Spellings.{clause_of};
+ghost use Rattle.clause_defs.specs.Clauses.{IsOrdered, clause_of};
 ghost use Rattle.sat_text.specs.Climbing.{climbs_from};
 
 use pch_base::{Lit, order_literals};

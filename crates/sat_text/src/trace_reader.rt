@@ -1,5 +1,6 @@
 ghost use Rattle.std.specs.Prelude.{◌≡◌, ◌<◌, ◌≤◌, [], length, IfOk, None, Ok};
-ghost use Rattle.sat_text_defs.specs.TraceReading.{trace_in, next_from, judged, with_places, place_of, places_from, indices_of};
+ghost use Rattle.sat_text_defs.specs.TraceReading.{trace_in, next_from, judged, with_places, places_from, indices_of};
+ghost use Rattle.clause_defs.specs.Traces.{place_of};
 ghost use Rattle.sat_scan.specs.Scan.{tokens_from, IsAtWord};
 ghost use Rattle.sat_text.specs.Answers.{GivesTrace};
 ghost use Rattle.sat_text.specs.Raw.{spelled_of};

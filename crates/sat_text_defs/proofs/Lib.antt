@@ -1,2 +1,1 @@
-pub mod ClauseOf
 pub mod NextClause

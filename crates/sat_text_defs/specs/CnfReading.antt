@@ -2,14 +2,15 @@
 use Rattle.std.specs.Prelude.{ℕ, Bool, true, false, ◌&&◌, ◌==◌, nat_lt, nat_le, List, [], ◌∷◌, ◌++◌, length, drop, ok_or, Result, Ok, Err, if◌then◌else◌}
 use Rattle.clause_defs.specs.declared.verdict.TheConstants.{MAX_VARIABLE, MAX_CLAUSES}
 use Rattle.clause_defs.specs.Literals.{Literal}
-use Rattle.clause_defs.specs.Clauses.{Lits}
+use Rattle.clause_defs.specs.Clauses.{Lits, clause_of}
 use Rattle.text_defs.specs.Tokens.{Token}
 use Rattle.sat_text_defs.specs.declared.fault.TheConstants.{MAX_CNF_BYTES}
 use Rattle.sat_text_defs.specs.declared.fault.CnfFault.{CnfFault}
 use Rattle.sat_text_defs.specs.declared.fault.CnfFault.TheVariants.{TooLong, Syntax, VarRange, Count}
-use Rattle.sat_text_defs.specs.Spellings.{is_zero, number_in, literal_in, clause_of}
+use Rattle.sat_text_defs.specs.Spellings.{is_zero, number_in, literal_in}
 use Rattle.sat_text_defs.specs.TraceReading.{◌>>=◌}
-use Rattle.sat_text_defs.specs.CnfText.{Formula, tokens_of, line_end}
+use Rattle.sat_text_defs.specs.CnfText.{tokens_of, line_end}
+use Rattle.clause_defs.specs.Formulas.{Formula}
 
 -- ---- the header
 

@@ -4,11 +4,6 @@ use Rattle.clause_defs.specs.Clauses.{Lits}
 use Rattle.text_defs.specs.Tokens.{Token, tokens}
 use Rattle.sat_text_defs.specs.Words.{separates}
 
--- a number of variables, and clauses over them
-pub record Formula : Type 0 where
-  pub variables : ℕ
-  pub clauses : List Lits
-
 -- ---- comments
 
 -- where a byte stands: first in its line, later in a line, or later in a line whose first byte is `c`

@@ -1,8 +1,7 @@
 -- What a word spells, computed from its bytes.
 use Rattle.std.specs.Prelude.{ℕ, ◌+◌, ◌-◌, ◌*◌, Bool, true, false, ◌&&◌, ◌==◌, nat_lt, nat_le, List, [], ◌∷◌, Option, Some, None, option_map, if◌then◌else◌}
 use Rattle.clause_defs.specs.declared.verdict.TheConstants.{MAX_VARIABLE, MAX_INDEX}
-use Rattle.clause_defs.specs.Literals.{Literal, code}
-use Rattle.clause_defs.specs.Clauses.{Lits}
+use Rattle.clause_defs.specs.Literals.{Literal}
 
 abbrev pub is_digit : ℕ → Bool
 is_digit b = nat_le 48 b && nat_le b 57
@@ -41,14 +40,3 @@ literal_in (b ∷ bs) =
     if b == 45
     then option_map (literal false) (positive_in MAX_VARIABLE bs)
     else option_map (literal true) (positive_in MAX_VARIABLE (b ∷ bs))
-
--- the literals in their order with one more, which may be there already
-abbrev pub with_literal : Literal → Lits → Lits
-with_literal l [] = l ∷ []
-with_literal l (m ∷ ms) =
-    if nat_lt (code l) (code m) then (l ∷ m ∷ ms) else (if code l == code m then (m ∷ ms) else (m ∷ with_literal l ms))
-
--- the clause that has these literals: each once, in their order
-abbrev pub clause_of : Lits → Lits
-clause_of [] = []
-clause_of (l ∷ ls) = with_literal l (clause_of ls)

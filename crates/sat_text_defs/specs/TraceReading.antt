@@ -1,6 +1,6 @@
 -- The trace of a text, or its fault, computed from the tokens from left to right. (TraceCheck)
 use Rattle.std.specs.Prelude.{ℕ, ◌==◌, nat_lt, List, [], ◌∷◌, ◌++◌, length, map, Option, is_some, ok_or, Result, Ok, Err, None, Some, ◌+◌, if◌then◌else◌}
-use Rattle.clause_defs.specs.Clauses.{Lits}
+use Rattle.clause_defs.specs.Clauses.{Lits, clause_of}
 use Rattle.clause_defs.specs.Traces.{Entry}
 use Rattle.text_defs.specs.Tokens.{Token, tokens}
 use Rattle.sat_text_defs.specs.declared.fault.TheConstants.{MAX_TRACE_BYTES}
@@ -8,7 +8,7 @@ use Rattle.sat_text_defs.specs.declared.fault.TraceFault.{TraceFault}
 use Rattle.sat_text_defs.specs.declared.fault.TraceFault.TheVariants.{TooLong, Syntax, Repeated, Unknown}
 use Rattle.sat_text_defs.specs.Words.{separates}
 use Rattle.sat_text_defs.specs.TraceText.{Spelled}
-use Rattle.sat_text_defs.specs.Spellings.{is_zero, index_in, literal_in, clause_of}
+use Rattle.sat_text_defs.specs.Spellings.{is_zero, index_in, literal_in}
 
 infixl 10 ◌>>=◌
 abbrev pub ◌>>=◌ : {A B F : Type 0} → Result A F → (A → Result B F) → Result B F
@@ -43,15 +43,6 @@ clause_from end (t ∷ ts) =
     Ok (record { index = index; lits = lits.0; antecedents = antecedents.0 }, antecedents.1)))
 
 -- ---- its judgement
-
--- the first place, counted from k on, where x stands in the list
-abbrev pub place_from : ℕ → List ℕ → ℕ → Option ℕ
-place_from k [] x = None
-place_from k (y ∷ ys) x = if y == x then Some k else place_from (k + 1) ys x
-
--- the place of the first clause with this index
-abbrev pub place_of : List ℕ → ℕ → Option ℕ
-place_of indices x = place_from 0 indices x
 
 -- the places of these indices behind those found so far, or the first index that no clause has
 abbrev pub places_from : List ℕ → List ℕ → List ℕ → Result (List ℕ) ℕ

@@ -1,6 +1,5 @@
 ghost use Rattle.std.specs.Prelude.{◌≡◌};
-ghost use Rattle.clause_defs.specs.Clauses.{Lits, SameSet, IsOrdered};
-ghost use Rattle.sat_text_defs.specs.Spellings.{clause_of};
+ghost use Rattle.clause_defs.specs.Clauses.{Lits, SameSet, IsOrdered, clause_of};
 
 /// The clause of a list of literals is the ordered list with the same literals.
 pub fn clause_of_a_list()

@@ -18,7 +18,7 @@ pub struct ClauseSet {
 }
 
 impl Model for ClauseSet {
-    ghost use Rattle.sat_text_defs.specs.CnfText.{Formula};
+    ghost use Rattle.clause_defs.specs.Formulas.{Formula};
     ghost use Rattle.sat_values.specs.ClauseSets.{IsClauseSet};
 
     ghost Value = { Formula };

@@ -4,7 +4,8 @@ use Rattle.std.proofs.lemmas.List.{drop_more}
 use Rattle.std.proofs.lemmas.Bool.{cases_Bool, cases_lt, eq-eqb, ne_eqb, lt-ltb, le-ltb}
 use Rattle.std.specs.BTreeMap.{is_at}
 use Rattle.clause_defs.specs.Clauses.{Has}
-use Rattle.sat_text_defs.specs.TraceReading.{place_of, place_from, places_from}
+use Rattle.sat_text_defs.specs.TraceReading.{places_from}
+use Rattle.clause_defs.specs.Traces.{place_of, place_from}
 
 -- one more index is found
 pub places_from-next : (indices ps xs : List ℕ) (i p : ℕ) → i < length xs → place_of indices (get_or xs i 0) ≡ Some p

@@ -4,7 +4,7 @@ use Rattle.std.proofs.lemmas.Bool.{cases_lt, cases_eq, ne_eqb, eq-eqb, cond-true
 use Rattle.std.specs.BTreeMap.{is_at}
 use Rattle.std.proofs.lemmas.List.{get_or_append_left}
 use Rattle.std.proofs.Math.Seq.{get_or-append_seam}
-use Rattle.sat_text_defs.specs.TraceReading.{place_of, place_from}
+use Rattle.clause_defs.specs.Traces.{place_of, place_from}
 use Rattle.trace_places.specs.Buckets.{IsIndex, AreLinked}
 use Rattle.trace_places.specs.Places.{IsKnown, ArePlaces}
 use Rattle.trace_places.proofs.PlaceLemmas.{place_of-push_same, place_of-push_other, is_at_same, is_at_other}

@@ -1,6 +1,6 @@
 -- A table, buckets and a map that say where indices stand.
 use Rattle.std.specs.Prelude.{◌≡◌, ℕ, ◌+◌, ◌<◌, ◌⊎◌, slice_index, get_or, List, length, Option, Some}
-use Rattle.sat_text_defs.specs.TraceReading.{place_of}
+use Rattle.clause_defs.specs.Traces.{place_of}
 use Rattle.trace_places.specs.Buckets.{AreLinked}
 
 -- one of the three has place k of the indices: the table, the buckets or the map

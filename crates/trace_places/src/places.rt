@@ -1,5 +1,6 @@
 ghost use Rattle.std.specs.Prelude.{◌≡◌, ◌==◌, ℕ, vec_len, slice_index, if◌then◌else◌, ◌+◌, ◌<◌, ◌^◌, ◌∷◌, ◌++◌, [], length, IfOk, OnOk, OnErr, Ok, Err, None, MatchOption};
-ghost use Rattle.sat_text_defs.specs.TraceReading.{place_of, places_from};
+ghost use Rattle.sat_text_defs.specs.TraceReading.{places_from};
+ghost use Rattle.clause_defs.specs.Traces.{place_of};
 
 use crate::buckets::{Buckets, find, is_full, link};
 use pch_base::NoMemory;

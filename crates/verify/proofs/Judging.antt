@@ -7,7 +7,7 @@ use Rattle.clause_defs.specs.declared.verdict.Verdict.TheVariants.{Refutes, NotO
 use Rattle.sat_text_defs.specs.TraceText.{TraceTextFault}
 use Rattle.sat_text_defs.specs.declared.fault.TraceFault.{TraceFault}
 use Rattle.sat_text_defs.specs.declared.fault.TraceFault.TheVariants as trace_faults
-use Rattle.sat_text_laws.proofs.OneReading.{trace_or_fault}
+use Rattle.trace_text_laws.proofs.OneReading.{trace_or_fault}
 use Rattle.net_defs.specs.Networks.{Network}
 use Rattle.fabric_defs.specs.Geometries.{GeometryValue, IsGeometry}
 use Rattle.fabric_defs.specs.Configurations.{ConfigValue, ConfigOf}
@@ -16,7 +16,7 @@ use Rattle.fabric_defs.specs.declared.faults.ConfigError.{ConfigError}
 use Rattle.bundle_defs.specs.Bundles.{BundleValue}
 use Rattle.bundle_defs.specs.Faults.{BundleOf}
 use Rattle.bundle_defs.specs.declared.faults.BundleError.{BundleError}
-use Rattle.answer_laws.proofs.Configuration.{answer_exists}
+use Rattle.verify_laws.proofs.Configuration.{answer_exists}
 use Rattle.verify.specs.Acceptance.{FitsPads, HasParts, ShowsOfMiter, Accepts}
 use Rattle.verify.specs.Refusals.{IsBundleFor, IsTraceFault, FirstRefusal}
 use Rattle.verify.specs.declared.refusal.Refusal.{Refusal}

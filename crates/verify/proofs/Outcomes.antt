@@ -6,7 +6,7 @@ use Rattle.clause_defs.specs.declared.verdict.Verdict.TheVariants.{Refutes}
 use Rattle.sat_text_defs.specs.TraceText.{TraceText, TraceTextFault}
 use Rattle.sat_text_defs.specs.declared.fault.TraceFault.{TraceFault}
 use Rattle.sat_text_defs.specs.declared.fault.TraceFault.TheVariants as trace_faults
-use Rattle.sat_text_laws.proofs.OneReading.{only_trace, only_fault, never_both}
+use Rattle.trace_text_laws.proofs.OneReading.{only_trace, only_fault, never_both}
 use Rattle.sat_text.specs.declared.errors.TraceError.{TraceError}
 use Rattle.sat_text.specs.declared.errors.TraceError.TheVariants as trace_errors
 use Rattle.net_defs.specs.Networks.{Network}
@@ -18,7 +18,7 @@ use Rattle.bundle_defs.specs.Bundles.{BundleValue, BundleText}
 use Rattle.bundle_defs.specs.Faults.{BundleOf}
 use Rattle.bundle_defs.specs.declared.faults.BundleError.{BundleError}
 use Rattle.bundle.proofs.AnswerLemmas.{answer_in-only}
-use Rattle.answer_laws.proofs.Configuration.{answer_unique}
+use Rattle.verify_laws.proofs.Configuration.{answer_unique}
 use Rattle.verify.specs.Acceptance.{FitsPads, ShowsOfMiter, AcceptsWith}
 use Rattle.verify.specs.Refusals.{IsTraceFault, FirstRefusal}
 use Rattle.verify.specs.declared.refusal.Refusal.{Refusal}

@@ -6,7 +6,7 @@ use Rattle.clause_defs.specs.declared.verdict.Verdict.{Verdict}
 use Rattle.clause_laws.proofs.Soundness.{unsat}
 use Rattle.clause_laws.proofs.Uniqueness.{verdict_unique}
 use Rattle.sat_text_defs.specs.TraceText.{TraceText}
-use Rattle.sat_text_laws.proofs.OneReading.{only_trace}
+use Rattle.trace_text_laws.proofs.OneReading.{only_trace}
 use Rattle.net_defs.specs.Networks.{Network}
 use Rattle.net_defs.specs.Nets.{IsNet}
 use Rattle.fabric_defs.specs.Geometries.{GeometryValue}
@@ -21,9 +21,9 @@ use Rattle.miter_defs.specs.Miters.{Miter}
 use Rattle.miter_laws.proofs.Extension.{equal-from_unsat}
 use Rattle.bundle_defs.specs.Bundles.{BundleValue, BundleText}
 use Rattle.bundle.proofs.AnswerLemmas.{answer_in, answer_in-only}
-use Rattle.answer_laws.proofs.Configuration.{answer_unique}
-use Rattle.answer_laws.proofs.Verdict.{verdict_exists}
-use Rattle.answer_laws.proofs.CellList.{cells_exist}
+use Rattle.verify_laws.proofs.Configuration.{answer_unique}
+use Rattle.verify_laws.proofs.Verdict.{verdict_exists}
+use Rattle.verify_laws.proofs.CellList.{cells_exist}
 use Rattle.verify.specs.Acceptance.{HasParts, ShowsOfMiter, AcceptsWith}
 
 -- bytes are the bundle of one value

@@ -2,7 +2,7 @@
 use Rattle.std.proofs.Common.{ℕ, List, length, Ok}
 use Rattle.sat_text_defs.specs.declared.fault.TraceFault.TheVariants as trace_faults
 use Rattle.sat_text_defs.specs.TraceReading.{trace_in}
-use Rattle.sat_text_laws.proofs.TraceFaults.{trace_in-fault}
+use Rattle.trace_text_laws.proofs.TraceFaults.{trace_in-fault}
 use Rattle.sat_text.specs.declared.errors.TraceError.{TraceError}
 use Rattle.sat_text.specs.declared.errors.TraceError.TheVariants.{TooLong, Syntax, Repeated, Unknown, NoMemory}
 use Rattle.sat_text.specs.Answers.{FailsTrace}

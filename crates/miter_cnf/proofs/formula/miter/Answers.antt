@@ -1,6 +1,5 @@
 use Rattle.std.proofs.Common.{◌≡◌, [], ◌∷◌, List, ◌++◌, map, ap, subst, ◌∙◌, arith}
-use Rattle.clause_defs.specs.Clauses.{Lits, Has}
-use Rattle.sat_text_defs.specs.Spellings.{clause_of}
+use Rattle.clause_defs.specs.Clauses.{Lits, Has, clause_of}
 use Rattle.miter_defs.specs.Numberings.{variable_count}
 use Rattle.miter_defs.specs.Miters.{circuit_clauses, some_difference, Miter}
 use Rattle.miter_laws.proofs.Ranges.{clauses-range}

@@ -1,7 +1,7 @@
 use Rattle.std.proofs.Common.{refl}
 use Rattle.sat_text.specs.Values.{formula_of}
 use Rattle.pch_shell.proofs.BytesLemmas.{bad_cnf_due, bad_trace_due, verified_from, refused_from}
-use Rattle.cnf_laws.proofs.FormulaLemmas.{formula_within}
+use Rattle.cnf_text_laws.proofs.FormulaLemmas.{formula_within}
 use Rattle.pch_shell.proofs.check.check_bytes.Goals as goal
 
 pub returns-in-Err : goal.returns-in-Err

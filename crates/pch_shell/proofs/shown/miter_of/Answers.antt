@@ -1,5 +1,5 @@
 use Rattle.std.proofs.Common.{ap}
-use Rattle.sat_text_defs.specs.CnfText.{Formula}
+use Rattle.clause_defs.specs.Formulas.{Formula}
 use Rattle.miter_defs.specs.Miters.{Miter}
 use Rattle.pch_shell.proofs.ShowLemmas.{one_more}
 use Rattle.pch_shell.proofs.shown.miter_of.Goals as goal

@@ -1,5 +1,5 @@
 use Rattle.std.proofs.Common.{◌≡◌, true, sym, ap, ◌∙◌}
-use Rattle.sat_text_defs.proofs.ClauseOf.{clause_of-ordered}
+use Rattle.clause_laws.proofs.ClauseOf.{clause_of-ordered}
 use Rattle.sat_text.specs.Climbing.{climbs_from}
 use Rattle.sat_text.proofs.ClimbingLemmas.{climbing_is_ordered}
 use Rattle.sat_text.proofs.close.close_clause.Goals as goal

@@ -1,7 +1,7 @@
 use Rattle.std.proofs.Common.{◌≤◌, length, Result, sym, subst, arith}
 use Rattle.sat_text_defs.specs.declared.fault.CnfFault.{CnfFault}
 use Rattle.sat_text_defs.specs.declared.fault.TheConstants.{MAX_CNF_BYTES}
-use Rattle.sat_text_defs.specs.CnfText.{Formula}
+use Rattle.clause_defs.specs.Formulas.{Formula}
 use Rattle.sat_text.specs.Answers.{GivesCnf}
 use Rattle.sat_text.specs.Values.{formula_of}
 use Rattle.sat_text.proofs.FirstWord.{cnf_in-from}

@@ -1,6 +1,6 @@
 use Rattle.std.proofs.lemmas.Result.{err_from_is_err_and}
 use Rattle.bundle.specs.Values.{value_of}
-use Rattle.sat_text_laws.proofs.TraceReads.{trace_in-text}
+use Rattle.trace_text_laws.proofs.TraceReads.{trace_in-text}
 use Rattle.verify.proofs.Reading.{trace_refuses}
 use Rattle.verify.proofs.verification.parts_of.Goals as goal
 

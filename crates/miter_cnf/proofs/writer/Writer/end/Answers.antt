@@ -1,8 +1,7 @@
 use Rattle.std.proofs.Common.{◌≡◌, [], ◌∷◌, ◌++◌, subst, ◌∙◌}
 use Rattle.std.specs.Result.{OnOk}
-use Rattle.clause_defs.specs.Clauses.{Lits}
-use Rattle.sat_text_defs.specs.Spellings.{clause_of}
-use Rattle.sat_text_defs.proofs.ClauseOf.{clause_of-ordered}
+use Rattle.clause_defs.specs.Clauses.{Lits, clause_of}
+use Rattle.clause_laws.proofs.ClauseOf.{clause_of-ordered}
 use Rattle.miter_cnf.proofs.writer.Writer.end.Goals as goal
 
 -- the pushed literals are the clause of those that were added

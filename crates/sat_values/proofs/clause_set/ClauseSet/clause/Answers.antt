@@ -1,5 +1,5 @@
 use Rattle.std.proofs.Common.{◌-◌, ◌≤◌, subst}
-use Rattle.sat_text_defs.specs.CnfText.{Formula}
+use Rattle.clause_defs.specs.Formulas.{Formula}
 use Rattle.sat_values.proofs.ClauseLemmas.{Has-slice_get}
 use Rattle.sat_values.proofs.clause_set.ClauseSet.clause.Goals as goal
 

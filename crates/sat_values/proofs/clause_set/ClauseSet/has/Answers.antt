@@ -1,6 +1,6 @@
 use Rattle.std.proofs.Common.{length, sym, ap, ◌∙◌, subst}
 use Rattle.clause_defs.specs.Clauses.{HasClause}
-use Rattle.sat_text_defs.specs.CnfText.{Formula}
+use Rattle.clause_defs.specs.Formulas.{Formula}
 use Rattle.sat_values.proofs.IndexLemmas.{HasClause-StandsBefore, StandsBefore-HasClause}
 use Rattle.sat_values.proofs.clause_set.ClauseSet.has.Goals as goal
 

@@ -1,7 +1,7 @@
 use Rattle.std.proofs.Common.{◌≡◌, ◌≢◌, ℕ, ◌-◌, ◌<◌, List, get_or, length, nat_cmp, sym, ap, ◌∙◌, subst, arith}
 use Rattle.std.proofs.lemmas.List.{get_or_past, get_or_default}
 use Rattle.std.specs.BTreeMap.{get}
-use Rattle.sat_text_defs.specs.TraceReading.{place_of}
+use Rattle.clause_defs.specs.Traces.{place_of}
 use Rattle.trace_places.proofs.PushLemmas.{entry_of, known_in_map}
 use Rattle.trace_places.proofs.places.Places.place.Goals as goal
 use Rattle.trace_places.proofs.places.Places.place.Goals.{else-at-len-via-then-at-len+else-index-ne0, else-at-len-via-else-at-len}

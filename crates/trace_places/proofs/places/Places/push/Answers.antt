@@ -1,6 +1,6 @@
 use Rattle.std.proofs.Common.{◌≡◌, ℕ, ◌+◌, ◌==◌, ◌<◌, ◌∷◌, ◌++◌, [], List, length, None, Some, cond, if◌then◌else◌, nat_cmp, get_or, ap, ◌∙◌, subst, arith}
 use Rattle.std.specs.BTreeMap.{get, is_at}
-use Rattle.sat_text_defs.specs.TraceReading.{place_of}
+use Rattle.clause_defs.specs.Traces.{place_of}
 use Rattle.trace_places.specs.Buckets.{IsIndex, AreLinked}
 use Rattle.trace_places.proofs.BucketLemmas.{IsIndex-longer}
 use Rattle.trace_places.proofs.PushLemmas.{ArePlaces-put, ArePlaces-insert, ArePlaces-link, ArePlaces-same_table, ArePlaces-same_links}

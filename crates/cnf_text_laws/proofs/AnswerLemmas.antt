@@ -1,0 +1,118 @@
+-- Each list of tokens has a header alone on its line, or a first token that can't stand there, or ends
+-- before the header does.
+use Rattle.std.proofs.Common.{◌≡◌, ℕ, ◌≤◌, ◌⊎◌, inl, inr, List, [], ◌∷◌, ◌++◌, Ok, Err, refl, arith}
+use Rattle.std.proofs.lemmas.Bool.{cases_lt}
+use Rattle.clause_defs.specs.declared.verdict.TheConstants.{MAX_VARIABLE, MAX_CLAUSES}
+use Rattle.text_defs.specs.Tokens.{Token}
+use Rattle.sat_text_defs.specs.declared.fault.CnfFault.TheVariants.{Syntax}
+use Rattle.sat_text_defs.specs.CnfReading.{header_in}
+use Rattle.cnf_text_laws.specs.CnfGrammar.{p_word, cnf_word, CanStand, IsRight, EachRight, FirstBad, IsWhole}
+use Rattle.cnf_text_laws.proofs.OrderLemmas.{BeginsBehind}
+use Rattle.cnf_text_laws.proofs.HeaderLemmas.{NumberStands, Headed, word_cases, number_cases, max_variable, max_clauses, stop0, bad1, bad2, bad3, short1, short2, short3, headed_alone, headed_not_alone}
+use Rattle.cnf_text_laws.proofs.EachLemmas.{each_nil, each1, each2, each3, each4}
+
+-- a header, alone on its line
+pub record Good (end line : ℕ) (ts : List Token) : Type 0 where
+  pub p : Token
+  pub c : Token
+  pub d : Token
+  pub n : Token
+  pub body : List Token
+  pub variables : ℕ
+  pub clauses : ℕ
+  pub parts : ts ≡ p ∷ c ∷ d ∷ n ∷ body
+  pub headed : Headed line p c d n variables clauses
+  pub alone : BeginsBehind line body
+  pub value : header_in end line ts ≡ Ok (record { variables = variables; clauses = clauses; rest = body })
+
+-- no header
+abbrev pub Stops : ℕ → ℕ → List Token → Type 0
+Stops end line ts =
+    ((t : Token) × FirstBad line ts t × (header_in end line ts ≡ Err (Syntax t.at)))
+    ⊎ (EachRight line ts × (IsWhole ts → ⊥) × (header_in end line ts ≡ Err (Syntax end)))
+
+abbrev pub Answer : ℕ → ℕ → List Token → Type 0
+Answer end line ts = Good end line ts ⊎ Stops end line ts
+
+first_bad : (line : ℕ) (before : List Token) (t : Token) (after : List Token) → EachRight line before → (CanStand line before t → ⊥) → FirstBad line (before ++ (t ∷ after)) t
+first_bad line before t after h k = record { before = before; after = after; parts = refl; each_before = h; cannot = k }
+
+answer4 : (end line : ℕ) (p c d n : Token) (ts : List Token) (v k : ℕ) → Headed line p c d n v k → Answer end line (p ∷ c ∷ d ∷ n ∷ ts)
+answer4 end line p c d n [] v k h = inl (record {
+  p = p;
+  c = c;
+  d = d;
+  n = n;
+  body = [];
+  variables = v;
+  clauses = k;
+  parts = refl;
+  headed = h;
+  alone = tt;
+  value = headed_alone end line p c d n [] v k h tt;
+})
+answer4 end line p c d n (t ∷ ts) v k h = elim (cases_lt t.at line) [
+  | inl lt ↦ inr (inl (
+    t,
+    first_bad line (p ∷ c ∷ d ∷ n ∷ []) t ts (each4 line p c d n [] v k h (each_nil (λ us. IsRight line (p ∷ c ∷ d ∷ n ∷ us))))
+        (λ s. let le : line ≤ t.at = s.0 in omega arith),
+    headed_not_alone end line p c d n t ts v k h lt,
+  ))
+  | inr le ↦ inl (record {
+    p = p;
+    c = c;
+    d = d;
+    n = n;
+    body = t ∷ ts;
+    variables = v;
+    clauses = k;
+    parts = refl;
+    headed = h;
+    alone = le;
+    value = headed_alone end line p c d n (t ∷ ts) v k h le;
+  })
+]
+
+answer3 : (end line : ℕ) (p c d : Token) (ts : List Token) (v : ℕ) → CanStand line [] p → CanStand line (p ∷ []) c → NumberStands line MAX_VARIABLE d v → Answer end line (p ∷ c ∷ d ∷ ts)
+answer3 end line p c d [] v h i j = inr (inr (
+  each3 line p c d [] h i (j.0, (v, j.1)) (each_nil (λ us. IsRight line (p ∷ c ∷ d ∷ us))),
+  λ w. w,
+  short3 end line p c d h i (j.0, (v, j.1)),
+))
+answer3 end line p c d (n ∷ ts) v h i j = elim (number_cases line MAX_CLAUSES n (omega arith) max_clauses) [
+  | inl k ↦ answer4 end line p c d n ts v k.0 (record { first = h; second = i; third = j; fourth = k.1 })
+  | inr bad ↦ inr (inl (
+    n,
+    first_bad line (p ∷ c ∷ d ∷ []) n ts (each3 line p c d [] h i (j.0, (v, j.1)) (each_nil (λ us. IsRight line (p ∷ c ∷ d ∷ us)))) bad,
+    bad3 end line p c d n ts h i (j.0, (v, j.1)) bad,
+  ))
+]
+
+answer2 : (end line : ℕ) (p c : Token) (ts : List Token) → CanStand line [] p → CanStand line (p ∷ []) c → Answer end line (p ∷ c ∷ ts)
+answer2 end line p c [] h i = inr (inr (each2 line p c [] h i (each_nil (λ us. IsRight line (p ∷ c ∷ us))), λ w. w, short2 end line p c h i))
+answer2 end line p c (d ∷ ts) h i = elim (number_cases line MAX_VARIABLE d (omega arith) max_variable) [
+  | inl k ↦ answer3 end line p c d ts k.0 h i k.1
+  | inr bad ↦ inr (inl (
+    d,
+    first_bad line (p ∷ c ∷ []) d ts (each2 line p c [] h i (each_nil (λ us. IsRight line (p ∷ c ∷ us)))) bad,
+    bad2 end line p c d ts h i bad,
+  ))
+]
+
+answer1 : (end line : ℕ) (p : Token) (ts : List Token) → CanStand line [] p → Answer end line (p ∷ ts)
+answer1 end line p [] h = inr (inr (each1 line p [] h (each_nil (λ us. IsRight line (p ∷ us))), λ w. w, short1 end line p h))
+answer1 end line p (c ∷ ts) h = elim (word_cases line cnf_word c) [
+  | inl i ↦ answer2 end line p c ts h i
+  | inr bad ↦ inr (inl (
+    c,
+    first_bad line (p ∷ []) c ts (each1 line p [] h (each_nil (λ us. IsRight line (p ∷ us)))) bad,
+    bad1 end line p c ts h bad,
+  ))
+]
+
+pub answer : (end line : ℕ) (ts : List Token) → Answer end line ts
+answer end line [] = inr (inr (each_nil (IsRight line), λ w. w, refl))
+answer end line (p ∷ ts) = elim (word_cases line p_word p) [
+  | inl h ↦ answer1 end line p ts h
+  | inr bad ↦ inr (inl (p, first_bad line [] p ts (each_nil (IsRight line)) bad, stop0 end line p ts bad))
+]

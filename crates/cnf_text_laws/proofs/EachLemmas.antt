@@ -1,0 +1,132 @@
+-- Lists of tokens each of which is right behind those before it.
+use Rattle.std.proofs.Common.{◌≡◌, ℕ, ◌<◌, ◌≤◌, inl, inr, List, [], ◌∷◌, ◌++◌, refl, ap, subst, arith}
+use Rattle.std.proofs.lemmas.Bool.{cases_lt}
+use Rattle.clause_defs.specs.declared.verdict.TheConstants.{MAX_VARIABLE}
+use Rattle.text_defs.specs.Tokens.{Token}
+use Rattle.cnf_text_laws.specs.CnfGrammar.{IsNumberWord, IsClauseWord, CanStand, IsOutOfRange, IsRight, EachRight}
+use Rattle.cnf_text_laws.proofs.OrderLemmas.{BeginsBehind, AllBehind}
+use Rattle.cnf_text_laws.proofs.WordLemmas.{one_number}
+use Rattle.cnf_text_laws.proofs.BodyLemmas.{RightWord, Outside, AllRight, clause_word, not_outside}
+use Rattle.cnf_text_laws.proofs.HeaderLemmas.{Headed, max_variable}
+
+abbrev pub Each : (List Token → Token → Type 0) → List Token → Type 0
+Each P ts = (before : List Token) (t : Token) (after : List Token) → ts ≡ before ++ (t ∷ after) → P before t
+
+pub each_nil : (P : List Token → Token → Type 0) → Each P []
+each_nil P [] t after e = absurd (cc)
+each_nil P (u ∷ us) t after e = absurd (cc)
+
+pub each_head : (P : List Token → Token → Type 0) (t : Token) (ts : List Token) → Each P (t ∷ ts) → P [] t
+each_head P t ts h = h [] t ts refl
+
+pub each_tail : (P : List Token → Token → Type 0) (t : Token) (ts : List Token) → Each P (t ∷ ts) → Each (λ before. P (t ∷ before)) ts
+each_tail P t ts h before u after e = h (t ∷ before) u after (ap (λ (us : List Token). t ∷ us) e)
+
+pub each_cons : (P : List Token → Token → Type 0) (t : Token) (ts : List Token) → P [] t → Each (λ before. P (t ∷ before)) ts → Each P (t ∷ ts)
+each_cons P t ts a b [] u after e = let same : t ≡ u = cc in subst (λ (x : Token). P [] x) same a
+each_cons P t ts a b (x ∷ before) u after e =
+    let same : t ≡ x = cc in
+    let rest : ts ≡ before ++ (u ∷ after) = cc in
+    subst (λ (y : Token). P (y ∷ before) u) same (b before u after rest)
+
+-- ---- the header
+
+pub each1 : (line : ℕ) (p : Token) (ts : List Token) → CanStand line [] p → Each (λ us. IsRight line (p ∷ us)) ts → EachRight line (p ∷ ts)
+each1 line p ts h k = each_cons (IsRight line) p ts (h, λ o. o) k
+
+pub each2 : (line : ℕ) (p c : Token) (ts : List Token) → CanStand line [] p → CanStand line (p ∷ []) c → Each (λ us. IsRight line (p ∷ c ∷ us)) ts
+    → EachRight line (p ∷ c ∷ ts)
+each2 line p c ts h i k = each1 line p (c ∷ ts) h (each_cons (λ us. IsRight line (p ∷ us)) c ts (i, λ o. o) k)
+
+pub each3 : (line : ℕ) (p c d : Token) (ts : List Token) → CanStand line [] p → CanStand line (p ∷ []) c → CanStand line (p ∷ c ∷ []) d
+    → Each (λ us. IsRight line (p ∷ c ∷ d ∷ us)) ts → EachRight line (p ∷ c ∷ d ∷ ts)
+each3 line p c d ts h i j k = each2 line p c (d ∷ ts) h i (each_cons (λ us. IsRight line (p ∷ c ∷ us)) d ts (j, λ o. o) k)
+
+pub each4 : (line : ℕ) (p c d n : Token) (ts : List Token) (v k : ℕ) → Headed line p c d n v k → Each (λ us. IsRight line (p ∷ c ∷ d ∷ n ∷ us)) ts
+    → EachRight line (p ∷ c ∷ d ∷ n ∷ ts)
+each4 line p c d n ts v k h e =
+    each3 line p c d (n ∷ ts) h.first h.second (h.third.0, (v, h.third.1))
+    (each_cons (λ us. IsRight line (p ∷ c ∷ d ∷ us)) n ts ((h.fourth.0, (k, h.fourth.1)), λ o. o) e)
+
+pub tail1 : (line : ℕ) (p : Token) (ts : List Token) → EachRight line (p ∷ ts) → Each (λ us. IsRight line (p ∷ us)) ts
+tail1 line p ts h = each_tail (IsRight line) p ts h
+
+pub tail2 : (line : ℕ) (p c : Token) (ts : List Token) → EachRight line (p ∷ c ∷ ts) → Each (λ us. IsRight line (p ∷ c ∷ us)) ts
+tail2 line p c ts h = each_tail (λ us. IsRight line (p ∷ us)) c ts (tail1 line p (c ∷ ts) h)
+
+pub tail3 : (line : ℕ) (p c d : Token) (ts : List Token) → EachRight line (p ∷ c ∷ d ∷ ts) → Each (λ us. IsRight line (p ∷ c ∷ d ∷ us)) ts
+tail3 line p c d ts h = each_tail (λ us. IsRight line (p ∷ c ∷ us)) d ts (tail2 line p c (d ∷ ts) h)
+
+pub tail4 : (line : ℕ) (p c d n : Token) (ts : List Token) → EachRight line (p ∷ c ∷ d ∷ n ∷ ts) → Each (λ us. IsRight line (p ∷ c ∷ d ∷ n ∷ us)) ts
+tail4 line p c d n ts h = each_tail (λ us. IsRight line (p ∷ c ∷ d ∷ us)) n ts (tail3 line p c d (n ∷ ts) h)
+
+pub stands1 : (line : ℕ) (p : Token) (ts : List Token) → EachRight line (p ∷ ts) → CanStand line [] p
+stands1 line p ts h = (each_head (IsRight line) p ts h).0
+
+pub stands2 : (line : ℕ) (p c : Token) (ts : List Token) → EachRight line (p ∷ c ∷ ts) → CanStand line (p ∷ []) c
+stands2 line p c ts h = (each_head (λ us. IsRight line (p ∷ us)) c ts (tail1 line p (c ∷ ts) h)).0
+
+pub stands3 : (line : ℕ) (p c d : Token) (ts : List Token) → EachRight line (p ∷ c ∷ d ∷ ts) → CanStand line (p ∷ c ∷ []) d
+stands3 line p c d ts h = (each_head (λ us. IsRight line (p ∷ c ∷ us)) d ts (tail2 line p c (d ∷ ts) h)).0
+
+pub stands4 : (line : ℕ) (p c d n : Token) (ts : List Token) → EachRight line (p ∷ c ∷ d ∷ n ∷ ts) → CanStand line (p ∷ c ∷ d ∷ []) n
+stands4 line p c d n ts h = (each_head (λ us. IsRight line (p ∷ c ∷ d ∷ us)) n ts (tail3 line p c d (n ∷ ts) h)).0
+
+-- right tokens that are four or more begin with a header
+pub headed_of_each : (line : ℕ) (p c d n : Token) (ts : List Token) → EachRight line (p ∷ c ∷ d ∷ n ∷ ts) → (v : ℕ) × (k : ℕ) × Headed line p c d n v k
+headed_of_each line p c d n ts h =
+    let third = stands3 line p c d (n ∷ ts) h in
+    let fourth = stands4 line p c d n ts h in (
+      third.1.0,
+      fourth.1.0,
+      record {
+        first = stands1 line p (c ∷ d ∷ n ∷ ts) h;
+        second = stands2 line p c (d ∷ n ∷ ts) h;
+        third = (third.0, third.1.1);
+        fourth = (fourth.0, fourth.1.1);
+      },
+    )
+
+pub alone_of_each : (line : ℕ) (p c d n : Token) (ts : List Token) → EachRight line (p ∷ c ∷ d ∷ n ∷ ts) → BeginsBehind line ts
+alone_of_each line p c d n [] h = tt
+alone_of_each line p c d n (t ∷ ts) h =
+    (each_head (λ us. IsRight line (p ∷ c ∷ d ∷ n ∷ us)) t ts (tail4 line p c d n (t ∷ ts) h)).0.0
+
+-- ---- the clauses
+
+word_right : (v : ℕ) (w : List ℕ) → IsClauseWord w → (Outside v w → ⊥) → RightWord v w
+word_right v w (inl z) h = inl z
+word_right v w (inr k) h = elim (cases_lt v k.0.variable) [ inl lt ↦ absurd (h (k.0, k.1, lt)) | inr le ↦ inr (k.0, k.1, le) ]
+
+right_word : (line : ℕ) (p c d n : Token) (v : ℕ) → IsNumberWord MAX_VARIABLE d.bytes v → (before : List Token) (t : Token)
+    → IsRight line (p ∷ c ∷ d ∷ n ∷ before) t → RightWord v t.bytes
+right_word line p c d n v num before t h = word_right v t.bytes h.0.1 (λ o. h.1 (v, num, o))
+
+all_of : (P : List Token → Token → Type 0) (v : ℕ) → ((before : List Token) (t : Token) → P before t → RightWord v t.bytes) → (ts : List Token) → Each P ts → AllRight v ts
+all_of P v f [] h = tt
+all_of P v f (t ∷ ts) h =
+    (f [] t (each_head P t ts h), all_of (λ before. P (t ∷ before)) v (λ before u k. f (t ∷ before) u k) ts (each_tail P t ts h))
+
+pub all_of_each : (line : ℕ) (p c d n : Token) (ts : List Token) (v : ℕ) → IsNumberWord MAX_VARIABLE d.bytes v → EachRight line (p ∷ c ∷ d ∷ n ∷ ts) → AllRight v ts
+all_of_each line p c d n ts v num h =
+    all_of (λ us. IsRight line (p ∷ c ∷ d ∷ n ∷ us)) v (right_word line p c d n v num) ts (tail4 line p c d n ts h)
+
+-- what is outside the header's variables
+pub outside_of : (p c d n : Token) (us : List Token) (t : Token) (v : ℕ) → IsNumberWord MAX_VARIABLE d.bytes v → IsOutOfRange (p ∷ c ∷ d ∷ n ∷ us) t → Outside v t.bytes
+outside_of p c d n us t v num o =
+    let same : o.0 ≡ v = one_number MAX_VARIABLE d.bytes o.0 v max_variable o.1 num in
+    let lt : o.0 < o.2.0.variable = o.2.2 in
+    (o.2.0, o.2.1, (let more : v < o.2.0.variable = omega arith in more))
+
+each_of_all : (P : List Token → Token → Type 0) (line v : ℕ) → ((before : List Token) (t : Token) → line ≤ t.at → RightWord v t.bytes → P before t) → (ts : List Token)
+    → AllBehind line ts → AllRight v ts → Each P ts
+each_of_all P line v f [] b h = each_nil P
+each_of_all P line v f (t ∷ ts) b h =
+    each_cons P t ts (f [] t b.0 h.0) (each_of_all (λ before. P (t ∷ before)) line v (λ before u i k. f (t ∷ before) u i k) ts b.1 h.1)
+
+pub each_of_parts : (line : ℕ) (p c d n : Token) (ts : List Token) (v k : ℕ) → Headed line p c d n v k → AllBehind line ts → AllRight v ts
+    → EachRight line (p ∷ c ∷ d ∷ n ∷ ts)
+each_of_parts line p c d n ts v k h b a =
+    each4 line p c d n ts v k h
+    (each_of_all (λ us. IsRight line (p ∷ c ∷ d ∷ n ∷ us)) line v
+    (λ us u i w. ((i, clause_word v u.bytes w), λ o. not_outside v u.bytes w (outside_of p c d n us u v h.third.1 o))) ts b a)

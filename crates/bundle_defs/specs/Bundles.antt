@@ -1,5 +1,6 @@
--- The bytes of a bundle: `PCHB`, the version, the five numbers of the geometry, the configuration and the trace
--- with their lengths before them, and the digest of all before. Numbers have the more significant byte first.
+-- The bytes of a bundle: `PCHB`, the version, the five numbers of the geometry, the configuration and the
+-- trace with their lengths before them, and the digest of all before. Numbers have the more significant byte
+-- first.
 use Rattle.std.specs.Prelude.{◌≡◌, ℕ, ◌==◌, ◌<◌, ◌≤◌, ◌^◌, Bool, not, List, [], ◌∷◌, ◌++◌, length, if◌then◌else◌}
 use Rattle.byteorder.specs.Endian.{big_bytes}
 use Rattle.sha2.specs.Sha256.{sha256}
@@ -18,10 +19,11 @@ pub record BundleValue : Type 0 where
 abbrev pub magic : List ℕ
 magic = 80 ∷ 67 ∷ 72 ∷ 66 ∷ []
 
--- versions 1 and 2 are of fabrics with cells of four inputs, version 3 of such with cells of six inputs
+-- there are versions 1, 2 and 3
 abbrev pub IsVersion : ℕ → Type 0
 IsVersion v = (1 ≤ v) × (v ≤ 3)
 
+-- version 3 is of fabrics with cells of six inputs, the others are of fabrics with cells of four inputs
 abbrev pub kind_of_version : ℕ → CellKind
 kind_of_version v = if v == 3 then SixInputs else FourInputs
 
@@ -29,9 +31,11 @@ kind_of_version v = if v == 3 then SixInputs else FourInputs
 abbrev pub may_be_compact : ℕ → Bool
 may_be_compact v = not (v == 1)
 
+-- the five numbers of a geometry; its kind follows from the version
 abbrev pub geometry_bytes : GeometryValue → List ℕ
 geometry_bytes g =
-    big_bytes 2 g.columns ++ big_bytes 2 g.rows ++ big_bytes 2 g.tracks ++ big_bytes 2 g.input_pads ++ big_bytes 2 g.output_pads
+    big_bytes 2 g.columns ++ big_bytes 2 g.rows ++ big_bytes 2 g.tracks
+    ++ big_bytes 2 g.input_pads ++ big_bytes 2 g.output_pads
 
 -- all bytes before the digest
 abbrev pub body : BundleValue → List ℕ
@@ -40,14 +44,20 @@ body v =
     ++ big_bytes 4 (length v.config) ++ v.config
     ++ big_bytes 4 (length v.trace) ++ v.trace
 
+-- all bytes
 abbrev pub bundle_bytes : BundleValue → List ℕ
 bundle_bytes v = body v ++ sha256 (body v)
 
--- these bytes are the bundle of this value
-pub record BundleText (bytes : List ℕ) (v : BundleValue) : Type 0 where
+-- the version is one of the three and tells the kind of the geometry's cells; each part has a length that four
+-- bytes can spell
+pub record IsBundle (v : BundleValue) : Type 0 where
   pub version : IsVersion v.version
   pub kind : v.geometry.kind ≡ kind_of_version v.version
   pub geometry : IsGeometry v.geometry
-  pub config_within : length v.config < 2 ^ 32
-  pub trace_within : length v.trace < 2 ^ 32
+  pub config : length v.config < 2 ^ 32
+  pub trace : length v.trace < 2 ^ 32
+
+-- these bytes are the bundle of this value
+pub record BundleText (bytes : List ℕ) (v : BundleValue) : Type 0 where
+  pub bundle : IsBundle v
   pub text : bytes ≡ bundle_bytes v

@@ -7,6 +7,7 @@ use Rattle.bundle_defs.specs.Bundles.{BundleValue, magic, IsVersion, kind_of_ver
 use Rattle.bundle_defs.specs.declared.faults.BundleError.{BundleError}
 use Rattle.bundle_defs.specs.declared.faults.BundleError.TheVariants.{Magic, Lengths, Version, Geometry, Digest}
 
+-- the first four bytes are `PCHB`
 abbrev pub HasMagic : List ℕ → Type 0
 HasMagic bytes = take 4 bytes ≡ magic
 
@@ -14,9 +15,11 @@ HasMagic bytes = take 4 bytes ≡ magic
 abbrev pub number_at : ℕ → ℕ → List ℕ → ℕ
 number_at place count bytes = big_number count (drop place bytes)
 
+-- the number in the place of the version
 abbrev pub version_in : List ℕ → ℕ
 version_in bytes = number_at 4 2 bytes
 
+-- the numbers in the places of the geometry, with the kind that the version tells
 abbrev pub geometry_in : List ℕ → GeometryValue
 geometry_in bytes = record {
   kind = kind_of_version (version_in bytes);
@@ -27,16 +30,20 @@ geometry_in bytes = record {
   output_pads = number_at 14 2 bytes;
 }
 
+-- how many bytes the configuration is to have
 abbrev pub config_length : List ℕ → ℕ
 config_length bytes = number_at 16 4 bytes
 
+-- how many bytes the trace is to have
 abbrev pub trace_length : List ℕ → ℕ
 trace_length bytes = number_at (20 + config_length bytes) 4 bytes
 
--- The head with both lengths has 24 bytes, and the digest 32. So where a length isn't there whole, this doesn't hold.
+-- The head with both lengths has 24 bytes, and the digest 32. So where a length isn't there whole, this doesn't
+-- hold.
 abbrev pub HasItsLength : List ℕ → Type 0
 HasItsLength bytes = length bytes ≡ 24 + config_length bytes + trace_length bytes + 32
 
+-- the last 32 bytes are the digest of all before
 abbrev pub HasItsDigest : List ℕ → Type 0
 HasItsDigest bytes = drop (length bytes - 32) bytes ≡ sha256 (take (length bytes - 32) bytes)
 

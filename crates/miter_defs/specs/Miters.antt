@@ -18,9 +18,11 @@ use Rattle.miter_defs.specs.Numberings.{zero_variable, signal_variable, node_var
 abbrev pub literal : ℕ → Bool → Literal
 literal variable sign = record { variable = variable; positive = sign }
 
+-- the literal that is true where its variable is
 abbrev pub positive : ℕ → Literal
 positive variable = literal variable true
 
+-- the literal that is true where its variable is false
 abbrev pub negative : ℕ → Literal
 negative variable = literal variable false
 
@@ -45,6 +47,7 @@ abbrev pub cover_clauses : ℕ → Bool → List ℕ → List Lits
 cover_clauses node on hits =
     (literal node (not on) ∷ map positive hits) ∷ map (λ hit. literal node on ∷ negative hit ∷ []) hits
 
+-- row r of node v
 abbrev pub row_at : Network → ℕ → ℕ → List Mark
 row_at net v r = slice_index_or (node_at net v).rows r []
 
@@ -63,6 +66,7 @@ table_clause net l k n =
     (λ j. literal (source_variable net l (slice_index_or (cell_at l k).pins j NoSource)) (bit_at n j == 0))
     ++ literal (cell_variable net l k) (bit_at (cell_at l k).table n == 1) ∷ []
 
+-- a cell of the cone has a clause for each bit of its table; the other cells have none
 abbrev pub cell_clauses : Network → CellsValue → ℕ → List Lits
 cell_clauses net l k =
     if in_cone l k then list_of (table_bits l.geometry) (table_clause net l k) else []
@@ -76,6 +80,7 @@ difference_clauses d a b =
     ∷ (positive d ∷ positive a ∷ negative b ∷ [])
     ∷ []
 
+-- what stands past the last output, where nothing looks
 abbrev pub no_output : Output
 no_output = record { name = []; signal = 0 }
 

@@ -16,6 +16,7 @@ zero_variable = 1
 abbrev pub signal_variable : ℕ → ℕ
 signal_variable s = 2 + s
 
+-- node v
 abbrev pub node_variable : Network → ℕ → ℕ
 node_variable net v = signal_variable (length net.inputs + v)
 
@@ -31,6 +32,7 @@ row_variable net v r = 2 + signals net + rows_before net v + r
 abbrev pub cone_before : CellsValue → ℕ → ℕ
 cone_before l k = count_by (λ (inside : Bool). inside) (take k l.cone)
 
+-- how many cells the cone has
 abbrev pub cone_size : CellsValue → ℕ
 cone_size l = count_by (λ (inside : Bool). inside) l.cone
 

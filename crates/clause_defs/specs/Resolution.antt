@@ -16,12 +16,12 @@ pub record Step (r c s : Lits) : Type 0 where
   pub resolvent : (l : Literal) → Has s l ↔ ((Has r l × (l ≢ pivot)) ⊎ (Has c l × (l ≢ negation pivot)))
 
 -- no literal of r clashes with c
-abbrev pub NoneClashes : Lits → Lits → Type 0
-NoneClashes r c = (l : Literal) → Clashes r c l → ⊥
+abbrev pub NoClash : Lits → Lits → Type 0
+NoClash r c = (l : Literal) → Clashes r c l → ⊥
 
 -- two or more literals of r clash with c
-abbrev pub SeveralClash : Lits → Lits → Type 0
-SeveralClash r c = (l : Literal) × (m : Literal) × (l ≢ m) × Clashes r c l × Clashes r c m
+abbrev pub ManyClash : Lits → Lits → Type 0
+ManyClash r c = (l : Literal) × (m : Literal) × (l ≢ m) × Clashes r c l × Clashes r c m
 
 -- s is what is left of r after a step with each of the clauses, in their order
 abbrev pub Chain : Lits → List Lits → Lits → Type 0

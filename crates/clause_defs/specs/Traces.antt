@@ -1,6 +1,6 @@
 -- A trace of resolution steps: clauses with indices, each an original or derived from earlier clauses.
 -- (TraceCheck)
-use Rattle.std.specs.Prelude.{◌≡◌, ◌≢◌, ℕ, ◌+◌, ◌==◌, Bool, ◌<◌, ◌≤◌, List, [], ◌∷◌, length, slice_get, Option, Some, None, if◌then◌else◌}
+use Rattle.std.specs.Prelude.{◌≡◌, ◌≢◌, ℕ, ◌+◌, ◌==◌, ◌<◌, ◌≤◌, List, [], ◌∷◌, length, slice_get, Option, Some, None, if◌then◌else◌}
 use Rattle.clause_defs.specs.declared.verdict.TheConstants.{MAX_INDEX}
 use Rattle.clause_defs.specs.Clauses.{Lits, Has, IsClause}
 

@@ -2,12 +2,11 @@
 -- trace, or that it ends with the empty clause. (The chain rule as this project reads TraceCheck.)
 use Rattle.std.specs.Prelude.{◌≡◌, ℕ, ◌+◌, ◌-◌, ◌<◌, nat_lt, ◌⊎◌, List, [], ◌∷◌, length, Option, Some, None, Result, Ok, Err, if◌then◌else◌}
 use Rattle.clause_defs.specs.Clauses.{Lits, SameSet, HasClause}
-use Rattle.clause_defs.specs.Resolution.{Step, NoneClashes, SeveralClash}
+use Rattle.clause_defs.specs.Resolution.{Step, NoClash, ManyClash}
 use Rattle.clause_defs.specs.Traces.{Entry, stated_at, lits_at, antecedents_at, index_at}
 use Rattle.clause_defs.specs.TraceClauses.{LitsOf, antecedent_lits, computed_before}
 use Rattle.clause_defs.specs.declared.verdict.TheConstants.{MAX_COMPUTED}
 use Rattle.clause_defs.specs.declared.verdict.ChainError.{ChainError}
-use Rattle.clause_defs.specs.declared.verdict.ChainError.TheVariants.{NoClash, ManyClash, Other}
 use Rattle.clause_defs.specs.declared.verdict.Verdict.{Verdict}
 use Rattle.clause_defs.specs.declared.verdict.Verdict.TheVariants.{Refutes, NotOriginal, Chain, TooWide, NotEmptyEnd}
 
@@ -15,7 +14,7 @@ use Rattle.clause_defs.specs.declared.verdict.Verdict.TheVariants.{Refutes, NotO
 abbrev pub EndsAt : ℕ → Option Lits → Lits → Result (Unit {0}) ChainError → Type 0
 EndsAt index None r end = end ≡ Ok tt
 EndsAt index (Some stated) r end =
-    (SameSet r stated × (end ≡ Ok tt)) ⊎ ((SameSet r stated → ⊥) × (end ≡ Err (Other index)))
+    (SameSet r stated × (end ≡ Ok tt)) ⊎ ((SameSet r stated → ⊥) × (end ≡ Err (ChainError.Other index)))
 
 -- How the chain of the clause whose index is `index` goes on from the running clause r with the antecedents
 -- cs, of which the first is used in step number `step`: to its first faulty step, to another clause than the
@@ -23,8 +22,8 @@ EndsAt index (Some stated) r end =
 abbrev pub ChainEnds : ℕ → Option Lits → ℕ → Lits → List Lits → Result (Unit {0}) ChainError → Type 0
 ChainEnds index stated step r [] end = EndsAt index stated r end
 ChainEnds index stated step r (c ∷ cs) end =
-    (NoneClashes r c × (end ≡ Err (NoClash index step)))
-    ⊎ ((SeveralClash r c × (end ≡ Err (ManyClash index step)))
+    (NoClash r c × (end ≡ Err (ChainError.NoClash index step)))
+    ⊎ ((ManyClash r c × (end ≡ Err (ChainError.ManyClash index step)))
     ⊎ ((s : Lits) × Step r c s × ChainEnds index stated (step + 1) s cs end))
 
 -- the chain of a derived clause: its first antecedent is the first running clause

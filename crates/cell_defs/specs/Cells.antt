@@ -21,25 +21,26 @@ pub record CellsValue : Type 0 where
 abbrev pub no_cell : CellValue
 no_cell = record { pins = []; table = 0 }
 
+-- cell k
 abbrev pub cell_at : CellsValue → ℕ → CellValue
-cell_at l k = slice_index_or l.cells k no_cell
+cell_at cells k = slice_index_or cells.cells k no_cell
 
--- an input pad of the fabric, or a cell with a number below this one
-abbrev pub IsSourceBelow : GeometryValue → ℕ → Source → Type 0
-IsSourceBelow g end Zero = ⊤
-IsSourceBelow g end (Pad p) = p < g.input_pads
-IsSourceBelow g end (Cell k) = k < end
+-- one of so many input pads, or a cell with a number below `end`
+abbrev pub IsSourceBelow : ℕ → ℕ → Source → Type 0
+IsSourceBelow pads end Zero = ⊤
+IsSourceBelow pads end (Pad p) = p < pads
+IsSourceBelow pads end (Cell k) = k < end
 
--- cell k listens to cells with lower numbers only
+-- cell k of a fabric: it has all its pins, they listen to cells with lower numbers only, and its table fits them
 pub record IsCell (g : GeometryValue) (k : ℕ) (cell : CellValue) : Type 0 where
   pub pins : length cell.pins ≡ pin_count g
-  pub sources : All (IsSourceBelow g k) cell.pins
+  pub sources : All (IsSourceBelow g.input_pads k) cell.pins
   pub table : cell.table < 2 ^ table_bits g
 
-pub record AreCells (l : CellsValue) : Type 0 where
-  pub geometry : IsGeometry l.geometry
-  pub count : length l.cells ≡ cell_count l.geometry
-  pub cells : (k : ℕ) → k < cell_count l.geometry → IsCell l.geometry k (cell_at l k)
-  pub pads : length l.outputs ≡ l.geometry.output_pads
-  pub outputs : All (IsSourceBelow l.geometry (cell_count l.geometry)) l.outputs
-  pub cone : length l.cone ≡ cell_count l.geometry
+-- the cells and the output pads of a fabric; nothing is said of the cone
+pub record AreCells (cells : CellsValue) : Type 0 where
+  pub geometry : IsGeometry cells.geometry
+  pub count : length cells.cells ≡ cell_count cells.geometry
+  pub each : (k : ℕ) → k < cell_count cells.geometry → IsCell cells.geometry k (cell_at cells k)
+  pub pads : length cells.outputs ≡ cells.geometry.output_pads
+  pub outputs : All (IsSourceBelow cells.geometry.input_pads (cell_count cells.geometry)) cells.outputs

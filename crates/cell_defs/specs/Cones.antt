@@ -2,18 +2,26 @@
 -- the cells to which the pins of its members listen.
 use Rattle.std.specs.Prelude.{◌≡◌, ℕ, ◌<◌, Bool, true, false, length, slice_index_or}
 use Rattle.clause_defs.specs.Clauses.{Has}
+use Rattle.fabric_defs.specs.Geometries.{cell_count}
 use Rattle.cell_defs.specs.declared.source.Source.TheVariants.{Cell}
 use Rattle.cell_defs.specs.Cells.{CellsValue, cell_at}
 
 -- whether cell k is in the cone
 abbrev pub in_cone : CellsValue → ℕ → Bool
-in_cone l k = slice_index_or l.cone k false
+in_cone cells k = slice_index_or cells.cone k false
 
 -- a set of cells, told by a test, that has all to which the output pads and its members listen
-pub record IsClosed (l : CellsValue) (set : ℕ → Bool) : Type 0 where
-  pub outputs : (k : ℕ) → Has l.outputs (Cell k) → set k ≡ true
-  pub pins : (m k : ℕ) → m < length l.cells → set m ≡ true → Has (cell_at l m).pins (Cell k) → set k ≡ true
+pub record IsClosed (cells : CellsValue) (set : ℕ → Bool) : Type 0 where
+  pub outputs : (k : ℕ) → Has cells.outputs (Cell k) → set k ≡ true
+  pub pins : (m k : ℕ) → m < length cells.cells → set m ≡ true → Has (cell_at cells m).pins (Cell k)
+      → set k ≡ true
 
-pub record IsCone (l : CellsValue) (set : ℕ → Bool) : Type 0 where
-  pub closed : IsClosed l set
-  pub least : (other : ℕ → Bool) → IsClosed l other → (k : ℕ) → set k ≡ true → other k ≡ true
+-- the least of these sets
+pub record IsCone (cells : CellsValue) (set : ℕ → Bool) : Type 0 where
+  pub closed : IsClosed cells set
+  pub least : (other : ℕ → Bool) → IsClosed cells other → (k : ℕ) → set k ≡ true → other k ≡ true
+
+-- it is said of each cell whether it is in the cone, and what is said is right
+pub record HasCone (cells : CellsValue) : Type 0 where
+  pub count : length cells.cone ≡ cell_count cells.geometry
+  pub cone : IsCone cells (in_cone cells)

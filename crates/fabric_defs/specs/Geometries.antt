@@ -1,10 +1,11 @@
--- The numbers of a fabric, and the kind of its cells: columns of rows of cells, a channel of tracks before each column and after the
--- last one, and pads for inputs and outputs.
+-- The numbers of a fabric, and the kind of its cells: columns of rows of cells, a channel of tracks before each
+-- column and after the last one, and pads for inputs and outputs.
 use Rattle.std.specs.Prelude.{ℕ, ◌+◌, ◌*◌, ◌^◌, ◌≤◌}
 use Rattle.fabric_defs.specs.declared.limits.TheConstants.{MAX_SIDE, MAX_TRACKS}
 use Rattle.fabric_defs.specs.declared.kind.CellKind.{CellKind}
-use Rattle.fabric_defs.specs.declared.kind.CellKind.TheVariants.{FourInputs, SixInputs}
+use Rattle.fabric_defs.specs.Kinds.{pins_of}
 
+-- a kind of cells, and how many there are of each part
 pub record GeometryValue : Type 0 where
   pub kind : CellKind
   pub columns : ℕ
@@ -13,6 +14,7 @@ pub record GeometryValue : Type 0 where
   pub input_pads : ℕ
   pub output_pads : ℕ
 
+-- there is at least one of each part, and no more than its limit
 pub record IsGeometry (g : GeometryValue) : Type 0 where
   pub some_columns : 1 ≤ g.columns
   pub columns : g.columns ≤ MAX_SIDE
@@ -25,20 +27,6 @@ pub record IsGeometry (g : GeometryValue) : Type 0 where
   pub some_output_pads : 1 ≤ g.output_pads
   pub output_pads : g.output_pads ≤ MAX_SIDE
 
--- the number of a kind
-abbrev pub kind_number : CellKind → ℕ
-kind_number FourInputs = 1
-kind_number SixInputs = 2
-
-abbrev pub pins_of : CellKind → ℕ
-pins_of FourInputs = 4
-pins_of SixInputs = 6
-
--- the words of a cell's table
-abbrev pub table_words_of : CellKind → ℕ
-table_words_of FourInputs = 1
-table_words_of SixInputs = 4
-
 -- the pins of a cell
 abbrev pub pin_count : GeometryValue → ℕ
 pin_count g = pins_of g.kind
@@ -47,6 +35,7 @@ pin_count g = pins_of g.kind
 abbrev pub table_bits : GeometryValue → ℕ
 table_bits g = 2 ^ pin_count g
 
+-- all cells of the fabric
 abbrev pub cell_count : GeometryValue → ℕ
 cell_count g = g.columns * g.rows
 

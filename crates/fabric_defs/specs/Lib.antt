@@ -1,4 +1,6 @@
 pub mod Numbered
+pub mod Bits
+pub mod Kinds
 pub mod Geometries
 pub mod Layout
 pub mod Configurations

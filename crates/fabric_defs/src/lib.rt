@@ -1,8 +1,10 @@
 //! Reconfigurable fabrics and their configurations, as definitions that other crates speak of.
 //!
-//! `specs/Geometries` has the numbers of a fabric, `specs/Layout` the order of the words of a
-//! configuration and their ranges, `specs/Configurations` what words are a configuration, `specs/Spelling` the bytes of words, and
-//! `specs/Wirings` the bits of tracks, pins, cells and output pads, as equations.
+//! `specs/Kinds` has the kinds of cells, `specs/Geometries` the numbers of a fabric, `specs/Layout`
+//! the order of the words of a configuration and their ranges, `specs/Configurations` which words are
+//! a configuration and what each of its parts says, `specs/Spelling` the bytes of words, and
+//! `specs/Wirings` the bits of tracks, pins, cells and output pads, as equations. `specs/Bits` and
+//! `specs/Numbered` have the words for lists of bits and for lists that a function of the place gives.
 #![tactic(auto)]
 
 mod faults;
@@ -11,4 +13,4 @@ mod limits;
 
 pub use faults::ConfigError;
 pub use kind::CellKind;
-pub use limits::{MAX_SIDE, MAX_TRACKS, MAX_WORD};
+pub use limits::{MAX_CELL_WORDS, MAX_PINS, MAX_SIDE, MAX_TRACKS, MAX_WORD, WORD_BITS};

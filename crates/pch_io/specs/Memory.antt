@@ -1,5 +1,5 @@
 -- The stores and the sink in memory: files as a list of names with bytes, and calls that are to fail.
-use Rattle.std.specs.Prelude.{ℕ, suc, ◌+◌, ◌-◌, ◌^◌, min, List, [], ◌∷◌, Option, Some, None, if◌then◌else◌, Vec, map}
+use Rattle.std.specs.Prelude.{◌≡◌, ℕ, suc, ◌+◌, ◌-◌, ◌^◌, min, List, [], ◌∷◌, Option, Some, None, if◌then◌else◌, Vec, map, Contains}
 use Rattle.std.specs.declared.alloc.Global.{Global}
 use Rattle.std.specs.Str.{bytes_eq}
 
@@ -31,6 +31,18 @@ pub record Calls : Type 0 where
 -- the number of the next call; the last number stands still
 abbrev pub next_number : Calls → ℕ
 next_number c = min (c.made + 1) (2 ^ 32 - 1)
+
+-- the next call is to fail
+abbrev pub FailsNext : Calls → Type 0
+FailsNext c = Contains c.failing (next_number c)
+
+-- What one call does to the counts: it is counted, and its fault where it is one that is to fail. The count
+-- of faults rises by exactly one then, and stays at its last value.
+pub record CountsCall (old new : Calls) : Type 0 where
+  pub failing : new.failing ≡ old.failing
+  pub made : new.made ≡ next_number old
+  pub calm : ¬ FailsNext old → new.faults ≡ old.faults
+  pub rose : FailsNext old → new.faults ≡ min (old.faults + 1) (2 ^ 64 - 1)
 
 -- what a store in memory holds
 pub record Stored : Type 0 where

@@ -10,6 +10,10 @@ Files = List ℕ → Option (List ℕ)
 abbrev pub Rose : ℕ → ℕ → Type 0
 Rose before now = min (before + 1) (2 ^ 64 - 1) ≤ now
 
+-- what one call does to the count: it stays, or rises by one
+abbrev pub CountsOnce : ℕ → ℕ → Type 0
+CountsOnce before now = (before ≤ now) × (now ≤ before + 1)
+
 -- what a load gives that answers Ok: the whole file, which isn't longer than the limit
 abbrev pub Loads : Option Files → List ℕ → ℕ → List ℕ → Type 0
 Loads None name limit bytes = length bytes ≤ limit

@@ -1,6 +1,6 @@
 ghost use Rattle.std.specs.Prelude.{◌≡◌, ◌≤◌, ◌^◌, ◌↔◌, ◌+◌, ◌-◌, min, if◌then◌else◌, IsTrue, Contains, vec_items, false};
-ghost use Rattle.pch_io.specs.Memory.{next_number};
-ghost use Rattle.pch_io.specs.Outside.{Rose};
+ghost use Rattle.pch_io.specs.Memory.{FailsNext, CountsCall};
+ghost use Rattle.pch_io.specs.Outside.{Rose, CountsOnce};
 
 use crate::faults::FaultCount;
 use std::marker::Model;
@@ -37,10 +37,9 @@ impl Script {
 
     /// Counts a call, and tells whether it is to fail.
     pub fn next_fails(&mut self) -> bool
-        ensures fails { IsTrue result ↔ Contains self.old.failing (next_number self.old) }
-        ensures failing { self.new.failing ≡ self.old.failing }
-        ensures made { self.new.made ≡ next_number self.old }
-        ensures later { self.old.faults ≤ self.new.faults }
+        ensures fails { IsTrue result ↔ FailsNext self.old }
+        ensures counted { CountsCall self.old self.new }
+        ensures once { CountsOnce self.old.faults self.new.faults }
         ensures rose { IsTrue result → Rose self.old.faults self.new.faults }
         ensures calm { result ≡ false → self.new.faults ≡ self.old.faults }
     {

@@ -1,6 +1,6 @@
 ghost use Rattle.std.specs.Prelude.{◌≡◌, ◌≤◌, ◌++◌, ◌↔◌, ℕ, List, [], Option, Some, OnOk, OnErr, IsErrOf, Contains};
-ghost use Rattle.pch_io.specs.Outside.{Rose, Appends, AppendsPrefix};
-ghost use Rattle.pch_io.specs.Memory.{next_number};
+ghost use Rattle.pch_io.specs.Outside.{Rose, CountsOnce, Appends, AppendsPrefix};
+ghost use Rattle.pch_io.specs.Memory.{FailsNext, CountsCall};
 
 use crate::calls::Script;
 use crate::sink::{PutFail, Sink};
@@ -49,15 +49,14 @@ impl Sink for MemSink {
     ghost faults = { λ s. s.calls.faults };
 
     fn put(&mut self, bytes: &[u8]) -> Result<(), PutFail>
-        ensures later { self.old.calls.faults ≤ self.new.calls.faults }
+        ensures once { CountsOnce self.old.calls.faults self.new.calls.faults }
+        ensures calm { OnOk result (self.new.calls.faults ≡ self.old.calls.faults) }
         ensures appended { OnOk result (Appends (Some self.old.bytes) (Some self.new.bytes) bytes.now) }
         ensures cut_off { OnErr result (AppendsPrefix (Some self.old.bytes) (Some self.new.bytes) bytes.now) }
         ensures failed { IsErrOf result PutFail.Failed → Rose self.old.calls.faults self.new.calls.faults }
         ensures unchanged { OnErr result (self.new.bytes ≡ self.old.bytes) }
-        ensures failed_exactly { IsErrOf result PutFail.Failed ↔ Contains self.old.calls.failing (next_number self.old.calls) }
-        ensures calm { (Contains self.old.calls.failing (next_number self.old.calls) → ⊥) → self.new.calls.faults ≡ self.old.calls.faults }
-        ensures failing { self.new.calls.failing ≡ self.old.calls.failing }
-        ensures counted { self.new.calls.made ≡ next_number self.old.calls }
+        ensures failed_exactly { IsErrOf result PutFail.Failed ↔ FailsNext self.old.calls }
+        ensures counted { CountsCall self.old.calls self.new.calls }
     {
         if self.script.next_fails() {
             return Err(PutFail::Failed);

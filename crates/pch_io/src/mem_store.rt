@@ -1,7 +1,7 @@
 ghost use Rattle.std.specs.Prelude.{◌≡◌, ◌≤◌, ◌<◌, ◌↔◌, ℕ, List, Option, Some, IfOk, OnOk, OnErr, IsErrOf, IsSomeAnd, Contains};
 ghost use Rattle.std.specs.Option.{option_map};
-ghost use Rattle.pch_io.specs.Outside.{Rose, Loads, AbsentCause, TooLongCause, Saves, Spoils};
-ghost use Rattle.pch_io.specs.Memory.{bytes_of, files_in, next_number};
+ghost use Rattle.pch_io.specs.Outside.{Rose, CountsOnce, Loads, AbsentCause, TooLongCause, Saves, Spoils};
+ghost use Rattle.pch_io.specs.Memory.{bytes_of, files_in, FailsNext, CountsCall};
 
 use crate::calls::Script;
 use crate::named_files::NamedFiles;
@@ -59,15 +59,14 @@ impl Store for MemStore {
 
     fn load(&mut self, alloc: Global, name: &str, max: u64) -> Result<Vec<u8>, LoadFail>
         ensures files { self.new.files ≡ self.old.files }
-        ensures later { self.old.calls.faults ≤ self.new.calls.faults }
+        ensures once { CountsOnce self.old.calls.faults self.new.calls.faults }
+        ensures calm { OnOk result (self.new.calls.faults ≡ self.old.calls.faults) }
         ensures loaded { IfOk result (λ bytes. Loads (Some (bytes_of self.old.files)) name.now max bytes.items) }
         ensures absent { IsErrOf result LoadFail.Absent → AbsentCause (Some (bytes_of self.old.files)) name.now self.old.calls.faults self.new.calls.faults }
         ensures too_long { IsErrOf result LoadFail.TooLong → TooLongCause (Some (bytes_of self.old.files)) name.now max self.old.calls.faults self.new.calls.faults }
         ensures failed { IsErrOf result LoadFail.Failed → Rose self.old.calls.faults self.new.calls.faults }
-        ensures failed_exactly { IsErrOf result LoadFail.Failed ↔ Contains self.old.calls.failing (next_number self.old.calls) }
-        ensures calm { (Contains self.old.calls.failing (next_number self.old.calls) → ⊥) → self.new.calls.faults ≡ self.old.calls.faults }
-        ensures failing { self.new.calls.failing ≡ self.old.calls.failing }
-        ensures counted { self.new.calls.made ≡ next_number self.old.calls }
+        ensures failed_exactly { IsErrOf result LoadFail.Failed ↔ FailsNext self.old.calls }
+        ensures counted { CountsCall self.old.calls self.new.calls }
     {
         if self.script.next_fails() {
             return Err(LoadFail::Failed);
@@ -76,15 +75,14 @@ impl Store for MemStore {
     }
 
     fn save(&mut self, name: &str, bytes: &[u8]) -> Result<(), SaveFail>
-        ensures later { self.old.calls.faults ≤ self.new.calls.faults }
+        ensures once { CountsOnce self.old.calls.faults self.new.calls.faults }
+        ensures calm { OnOk result (self.new.calls.faults ≡ self.old.calls.faults) }
         ensures saved { OnOk result (Saves (Some (bytes_of self.old.files)) (Some (bytes_of self.new.files)) name.now bytes.now) }
         ensures spoiled { OnErr result (Spoils (Some (bytes_of self.old.files)) (Some (bytes_of self.new.files)) name.now) }
         ensures failed { IsErrOf result SaveFail.Failed → Rose self.old.calls.faults self.new.calls.faults }
         ensures unchanged { OnErr result (self.new.files ≡ self.old.files) }
-        ensures failed_exactly { IsErrOf result SaveFail.Failed ↔ Contains self.old.calls.failing (next_number self.old.calls) }
-        ensures calm { (Contains self.old.calls.failing (next_number self.old.calls) → ⊥) → self.new.calls.faults ≡ self.old.calls.faults }
-        ensures failing { self.new.calls.failing ≡ self.old.calls.failing }
-        ensures counted { self.new.calls.made ≡ next_number self.old.calls }
+        ensures failed_exactly { IsErrOf result SaveFail.Failed ↔ FailsNext self.old.calls }
+        ensures counted { CountsCall self.old.calls self.new.calls }
     {
         if self.script.next_fails() {
             return Err(SaveFail::Failed);

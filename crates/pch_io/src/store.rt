@@ -1,5 +1,5 @@
 ghost use Rattle.std.specs.Prelude.{◌≡◌, ◌≤◌, ℕ, List, Option, IfOk, OnOk, OnErr, IsErrOf};
-ghost use Rattle.pch_io.specs.Outside.{Rose, Loads, AbsentCause, TooLongCause, Saves, Spoils};
+ghost use Rattle.pch_io.specs.Outside.{Rose, CountsOnce, Loads, AbsentCause, TooLongCause, Saves, Spoils};
 ghost use Rattle.pch_io.specs.declared.store.LoadFail.TheVariants.{NoMemory as NoMemoryToLoad};
 ghost use Rattle.pch_io.specs.declared.store.SaveFail.TheVariants.{NoMemory as NoMemoryToSave};
 
@@ -64,13 +64,15 @@ pub trait Store {
     /// The files by their names, where the store tells them.
     ghost files: { Self → Option (List ℕ → Option (List ℕ)) };
 
-    /// How often the store has failed. The count never falls.
+    /// How often the store has failed. A call raises the count by one at most, and leaves it as it was
+    /// where it answers Ok. It never falls, and stands still at its last value, 2^64 - 1.
     ghost faults: { Self → ℕ };
 
     /// The bytes of a file that has at most `max` bytes. Files never change.
     fn load(&mut self, alloc: Global, name: &str, max: u64) -> Result<Vec<u8>, LoadFail>
         ensures files { files self.new ≡ files self.old }
-        ensures later { faults self.old ≤ faults self.new }
+        ensures once { CountsOnce (faults self.old) (faults self.new) }
+        ensures calm { OnOk result (faults self.new ≡ faults self.old) }
         ensures loaded { IfOk result (λ bytes. Loads (files self.old) name.now max bytes.items) }
         ensures failed { IsErrOf result LoadFail.Failed → Rose (faults self.old) (faults self.new) }
         ensures absent { IsErrOf result LoadFail.Absent → AbsentCause (files self.old) name.now (faults self.old) (faults self.new) }
@@ -79,7 +81,8 @@ pub trait Store {
     /// Puts these bytes under the name, in place of what was there. Other files never change; after an
     /// error the named one may be absent or hold any bytes.
     fn save(&mut self, name: &str, bytes: &[u8]) -> Result<(), SaveFail>
-        ensures later { faults self.old ≤ faults self.new }
+        ensures once { CountsOnce (faults self.old) (faults self.new) }
+        ensures calm { OnOk result (faults self.new ≡ faults self.old) }
         ensures saved { OnOk result (Saves (files self.old) (files self.new) name.now bytes.now) }
         ensures spoiled { OnErr result (Spoils (files self.old) (files self.new) name.now) }
         ensures failed { IsErrOf result SaveFail.Failed → Rose (faults self.old) (faults self.new) };

@@ -1,6 +1,8 @@
 -- What stores, sinks and their calls mean. A store tells its files or tells nothing, a sink tells the
 -- bytes that it holds or tells nothing, and each has a count of faults that never falls.
 use Rattle.std.specs.Prelude.{◌≡◌, ◌≢◌, ℕ, ◌+◌, ◌-◌, ◌^◌, ◌<◌, ◌≤◌, min, List, ◌++◌, length, take, Option, Some, None, IsSomeAnd}
+use Rattle.pch_io.specs.declared.store.LoadFail.{LoadFail}
+use Rattle.pch_io.specs.declared.store.LoadFail.TheVariants as fails
 
 -- files by their names: what no name has isn't there
 abbrev pub Files : Type 0
@@ -28,6 +30,13 @@ AbsentCause (Some files) name before now = files name ≡ None
 abbrev pub TooLongCause : Option Files → List ℕ → ℕ → ℕ → ℕ → Type 0
 TooLongCause None name limit before now = Rose before now
 TooLongCause (Some files) name limit before now = IsSomeAnd (files name) (λ bytes. limit < length bytes)
+
+-- why a load gives no bytes; want of memory has no cause
+abbrev pub LoadCause : Option Files → List ℕ → (limit before now : ℕ) → LoadFail → Type 0
+LoadCause told name limit before now fails.Failed = Rose before now
+LoadCause told name limit before now fails.Absent = AbsentCause told name before now
+LoadCause told name limit before now fails.TooLong = TooLongCause told name limit before now
+LoadCause told name limit before now fails.NoMemory = Unit {0}
 
 -- every other name has what it had
 abbrev pub OthersStay : Files → Files → List ℕ → Type 0

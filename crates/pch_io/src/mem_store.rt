@@ -1,6 +1,6 @@
-ghost use Rattle.std.specs.Prelude.{◌≡◌, ◌≤◌, ◌<◌, ◌↔◌, ℕ, List, Option, Some, IfOk, OnOk, OnErr, IsErrOf, IsSomeAnd, Contains};
+ghost use Rattle.std.specs.Prelude.{◌≡◌, ◌≤◌, ◌<◌, ◌↔◌, ℕ, List, Option, Some, IfOk, IfErr, OnOk, OnErr, IsErrOf, IsSomeAnd, Contains};
 ghost use Rattle.std.specs.Option.{option_map};
-ghost use Rattle.pch_io.specs.Outside.{Rose, CountsOnce, Loads, AbsentCause, TooLongCause, Saves, Spoils};
+ghost use Rattle.pch_io.specs.Outside.{Rose, CountsOnce, Loads, LoadCause, Saves, Spoils};
 ghost use Rattle.pch_io.specs.Memory.{bytes_of, files_in, FailsNext, CountsCall};
 
 use crate::calls::Script;
@@ -62,9 +62,8 @@ impl Store for MemStore {
         ensures once { CountsOnce self.old.calls.faults self.new.calls.faults }
         ensures calm { OnOk result (self.new.calls.faults ≡ self.old.calls.faults) }
         ensures loaded { IfOk result (λ bytes. Loads (Some (bytes_of self.old.files)) name.now max bytes.items) }
-        ensures absent { IsErrOf result LoadFail.Absent → AbsentCause (Some (bytes_of self.old.files)) name.now self.old.calls.faults self.new.calls.faults }
-        ensures too_long { IsErrOf result LoadFail.TooLong → TooLongCause (Some (bytes_of self.old.files)) name.now max self.old.calls.faults self.new.calls.faults }
-        ensures failed { IsErrOf result LoadFail.Failed → Rose self.old.calls.faults self.new.calls.faults }
+        ensures cause { IfErr result (LoadCause (Some (bytes_of self.old.files)) name.now max
+            self.old.calls.faults self.new.calls.faults) }
         ensures failed_exactly { IsErrOf result LoadFail.Failed ↔ FailsNext self.old.calls }
         ensures counted { CountsCall self.old.calls self.new.calls }
     {

@@ -1,5 +1,5 @@
-ghost use Rattle.std.specs.Prelude.{◌≡◌, ◌≤◌, ℕ, List, Option, IfOk, OnOk, OnErr, IsErrOf};
-ghost use Rattle.pch_io.specs.Outside.{Rose, CountsOnce, Loads, AbsentCause, TooLongCause, Saves, Spoils};
+ghost use Rattle.std.specs.Prelude.{◌≡◌, ◌≤◌, ℕ, List, Option, IfOk, IfErr, OnOk, OnErr, IsErrOf};
+ghost use Rattle.pch_io.specs.Outside.{Rose, CountsOnce, Loads, LoadCause, Saves, Spoils};
 ghost use Rattle.pch_io.specs.declared.store.LoadFail.TheVariants.{NoMemory as NoMemoryToLoad};
 ghost use Rattle.pch_io.specs.declared.store.SaveFail.TheVariants.{NoMemory as NoMemoryToSave};
 
@@ -74,9 +74,8 @@ pub trait Store {
         ensures once { CountsOnce (faults self.old) (faults self.new) }
         ensures calm { OnOk result (faults self.new ≡ faults self.old) }
         ensures loaded { IfOk result (λ bytes. Loads (files self.old) name.now max bytes.items) }
-        ensures failed { IsErrOf result LoadFail.Failed → Rose (faults self.old) (faults self.new) }
-        ensures absent { IsErrOf result LoadFail.Absent → AbsentCause (files self.old) name.now (faults self.old) (faults self.new) }
-        ensures too_long { IsErrOf result LoadFail.TooLong → TooLongCause (files self.old) name.now max (faults self.old) (faults self.new) };
+        ensures cause { IfErr result
+            (LoadCause (files self.old) name.now max (faults self.old) (faults self.new)) };
 
     /// Puts these bytes under the name, in place of what was there. Other files never change; after an
     /// error the named one may be absent or hold any bytes.

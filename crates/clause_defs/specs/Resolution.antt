@@ -40,9 +40,9 @@ abbrev pub is_among : Literal → Lits → Bool
 is_among l [] = false
 is_among l (m ∷ ms) = (code m == code l) || is_among l ms
 
--- the literals of r that clash with c
+-- the literals of r that clash with c, each once
 abbrev pub clashing : Lits → Lits → Lits
-clashing r c = filter (λ l. is_among (negation l) c) r
+clashing r c = filter (λ l. is_among (negation l) c) (clause_of r)
 
 abbrev pub without : Literal → Lits → Lits
 without l c = filter (λ m. not (code m == code l)) c
@@ -51,7 +51,7 @@ without l c = filter (λ m. not (code m == code l)) c
 abbrev pub resolvent_on : Literal → Lits → Lits → Lits
 resolvent_on pivot r c = clause_of (without pivot r ++ without (negation pivot) c)
 
--- the resolvent, where just one literal clashes
+-- r and c resolved, if just one literal of r clashes
 abbrev pub resolvent_by : Lits → Lits → Lits → Option Lits
 resolvent_by [] r c = None
 resolvent_by (l ∷ []) r c = Some (resolvent_on l r c)
@@ -69,4 +69,4 @@ chain_from (Some r) (c ∷ cs) = chain_from (resolvent_of r c) cs
 -- the clause that follows from the list by the chain rule, if one does
 abbrev pub chain_of : List Lits → Option Lits
 chain_of [] = None
-chain_of (r ∷ cs) = chain_from (Some r) cs
+chain_of (r ∷ cs) = chain_from (Some (clause_of r)) cs

@@ -1,4 +1,4 @@
--- The words of a CNF or a trace: what separates them, and what each spells. (DIMACS CNF, TraceCheck)
+-- The words of a CNF or a trace: what separates them, and how they are spelled. (DIMACS CNF, TraceCheck)
 use Rattle.std.specs.Prelude.{ℕ, Bool, ◌||◌, ◌==◌, List, [], ◌∷◌, map, decimal, if◌then◌else◌}
 use Rattle.clause_defs.specs.Literals.{Literal}
 use Rattle.text_defs.specs.Tokens.{Token}
@@ -17,6 +17,10 @@ words_of ts = map bytes_of ts
 -- the word that ends a list: the digit 0 alone
 abbrev pub zero_word : List ℕ
 zero_word = 48 ∷ []
+
+-- the word that stands in place of a clause's literals and the 0 behind them: `*` alone
+abbrev pub sign_word : List ℕ
+sign_word = 42 ∷ []
 
 -- a literal is spelled by its variable, behind `-` where it is negative
 abbrev pub literal_word : Literal → List ℕ

@@ -1,2 +1,4 @@
+pub mod Steps
+pub mod Memory
 pub mod Numbers
 pub mod Tokens

@@ -1,4 +1,4 @@
-use crate::{Bits, Clause, Lit, Name, print_number, read_number};
+use crate::{Bits, Clause, Lit, read_number};
 use std::test::Fail;
 
 #[test]
@@ -14,14 +14,6 @@ fn numbers_are_read(rt: HostRuntime) {
         Some(u64::MAX)
     );
     assert_eq!(rt; read_number(b"18446744073709551616", u64::MAX), None);
-}
-
-#[test]
-fn numbers_are_printed(rt: HostRuntime) -> Result<(), Fail> {
-    let mut out = b"= ".to_vec(rt.alloc())?;
-    print_number(2026, &mut out)?;
-    assert_eq!(rt; out.as_slice(), b"= 2026".as_slice());
-    Ok(())
 }
 
 #[test]
@@ -50,12 +42,5 @@ fn clauses_are_sets(rt: HostRuntime) -> Result<(), Fail> {
     assert_eq!(rt; clause.lits(), lits.as_slice());
     assert!(rt; clause.has(Lit::new(-1)));
     assert!(rt; !clause.has(Lit::new(-3)));
-    Ok(())
-}
-
-#[test]
-fn names_keep_their_bytes(rt: HostRuntime) -> Result<(), Fail> {
-    let name = Name::from_bytes(rt.alloc(), b"a.b")?;
-    assert_eq!(rt; name.bytes(), b"a.b".as_slice());
     Ok(())
 }

@@ -8,7 +8,7 @@ use Rattle.pch_base.specs.BitLists.{word_of}
 use Rattle.fabric_defs.specs.Geometries.{pin_count, cell_count, cell_number}
 use Rattle.fabric_defs.specs.Configurations.{ConfigValue, first_word, pin_word, table, track_word, output_word}
 use Rattle.fabric_defs.specs.Wirings.{Wiring, Wired, channel, cell_pins, pad_bit, tapped_bit, switched_bit, table_bit, pad_bits}
-use Rattle.fabric_laws.specs.Bits.{AreBits}
+use Rattle.fabric_defs.specs.Bits.{AreBits}
 use Rattle.fabric_laws.proofs.NumberedLemmas.{length-list_of, get_or-list_of, place_splits}
 
 -- bits by places: past the end stands 0

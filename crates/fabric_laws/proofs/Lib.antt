@@ -1,4 +1,8 @@
 pub mod NumberedLemmas
-pub mod WiringLemmas
+pub mod LayoutLemmas
 pub mod LimitLemmas
+pub mod TableLemmas
+pub mod PartLemmas
+pub mod WiringLemmas
 pub mod BitLemmas
+pub mod ConfigAnswers

@@ -1,14 +1,17 @@
 -- The greatest value of each word of a configuration, by the part of the fabric that the word is for.
-use Rattle.std.proofs.Common.{◌≡◌, ℕ, ◌+◌, ◌*◌, ◌<◌, ◌≤◌, List, ◌++◌, length, get_or, refl, ap, sym, ◌∙◌, arith, length-append}
+use Rattle.std.proofs.Common.{◌≡◌, ℕ, ◌+◌, ◌*◌, ◌^◌, ◌<◌, ◌≤◌, List, ◌++◌, length, get_or, refl, ap, subst, sym, ◌∙◌, arith, length-append}
 use Rattle.std.proofs.lemmas.List.{get_or_append_left, get_or-append-add}
 use Rattle.std.proofs.lemmas.List.Elements.{AllZip-get_or, length_all_zip}
 use Rattle.std.proofs.lemmas.Nat.{mul-add-lt}
 use Rattle.std.proofs.Math.Nat.{mul_comm}
-use Rattle.fabric_defs.specs.declared.limits.TheConstants.{MAX_WORD}
+use Rattle.fabric_defs.specs.declared.limits.TheConstants.{MAX_WORD, WORD_BITS}
 use Rattle.fabric_defs.specs.Numbered.{list_of, joined}
-use Rattle.fabric_defs.specs.Geometries.{GeometryValue, pin_count}
-use Rattle.fabric_defs.specs.Layout.{cell_words, column_words, word_count, column_place, cell_place, channel_place, output_place, cell_limits, column_limits, limits, table_words}
-use Rattle.fabric_defs.specs.Configurations.{ConfigValue, IsConfig, first_word, pin_word, table, track_word, output_word}
+use Rattle.fabric_defs.specs.Geometries.{GeometryValue, pin_count, table_bits}
+use Rattle.fabric_defs.specs.Layout.{cell_words, column_words, word_count, column_place, cell_place, table_place, channel_place, output_place, cell_limits, column_limits, limits, table_words}
+use Rattle.fabric_defs.specs.Configurations.{ConfigValue, IsConfig, first_word, pin_word, table_word, table_words_at, number_behind, table, track_word, output_word}
+use Rattle.fabric_laws.specs.Ranges.{HasRanges}
+use Rattle.fabric_laws.proofs.LayoutLemmas.{table_words-bits, cell_place-le, channel_place-le}
+use Rattle.fabric_laws.proofs.TableLemmas.{AreWords, number_behind-lt}
 use Rattle.fabric_laws.proofs.NumberedLemmas.{length-list_of, get_or-list_of, length-joined, get_or-joined}
 
 -- an element of the second of two lists
@@ -125,17 +128,20 @@ pub get_or-limits-pin : (g : GeometryValue) (column row pin : ℕ) → column < 
     → get_or (limits g) (cell_place g column row + pin) 0 ≡ g.tracks
 get_or-limits-pin g column row pin lt inside below =
     get_or-limits-cell g column row pin lt inside (omega arith)
-    ∙ get_or_append_left (list_of (pin_count g) (λ pin. g.tracks)) (list_of (table_words g) (λ word. MAX_WORD)) 0 pin below
+    ∙ get_or_append_left (list_of (pin_count g) (λ pin. g.tracks)) (list_of (table_words g) (λ word. MAX_WORD)) 0 pin
+    (omega (arith, length-list_of (pin_count g) (λ pin. g.tracks)))
     ∙ get_or-list_of (pin_count g) (λ pin. g.tracks) pin 0 below
 
--- the table of a cell
-pub get_or-limits-table : (g : GeometryValue) (column row : ℕ) → column < g.columns → row < g.rows
-    → get_or (limits g) (cell_place g column row + pin_count g) 0 ≡ MAX_WORD
-get_or-limits-table g column row lt inside =
-    get_or-limits-cell g column row (pin_count g) lt inside (omega arith)
-    ∙ get_or-append-at (list_of (pin_count g) (λ pin. g.tracks)) (list_of (table_words g) (λ word. MAX_WORD)) (pin_count g) 0
+-- a word of the table of a cell
+pub get_or-limits-table : (g : GeometryValue) (column row j : ℕ) → column < g.columns → row < g.rows → j < table_words g
+    → get_or (limits g) (table_place g column row + j) 0 ≡ MAX_WORD
+get_or-limits-table g column row j lt inside below =
+    let place : table_place g column row + j ≡ cell_place g column row + (pin_count g + j) = omega arith in
+    ap (λ m. get_or (limits g) m 0) place
+    ∙ get_or-limits-cell g column row (pin_count g + j) lt inside (omega arith)
+    ∙ get_or-append-at (list_of (pin_count g) (λ pin. g.tracks)) (list_of (table_words g) (λ word. MAX_WORD)) (pin_count g) j
     (length-list_of (pin_count g) (λ pin. g.tracks))
-    ∙ get_or-list_of (table_words g) (λ word. MAX_WORD) 0 0 (omega arith)
+    ∙ get_or-list_of (table_words g) (λ word. MAX_WORD) j 0 below
 
 -- the word of a track of the channel after a column
 pub get_or-limits-track : (g : GeometryValue) (column t : ℕ) → column < g.columns → t < g.tracks
@@ -170,19 +176,6 @@ word_within k place limit h lt e =
     AllZip-get_or (λ limit word. word ≤ limit) (limits k.geometry) k.words place 0 0 h.words (omega (arith, length-limits k.geometry)) in
     omega arith
 
--- places of words are below the count
-column_place-lt : (g : GeometryValue) (column i : ℕ) → column < g.columns → i < column_words g → column_place g column + i < word_count g
-column_place-lt g column i lt within =
-    omega (arith, mul-add-lt column (column_words g) i g.columns lt within, mul_comm (column_words g) g.columns)
-
--- so are those of the words of a cell
-cell_place-lt : (g : GeometryValue) (column row i : ℕ) → column < g.columns → row < g.rows → i < cell_words g
-    → cell_place g column row + i < word_count g
-cell_place-lt g column row i lt inside within =
-    let below : row * cell_words g + i < cell_words g * g.rows = mul-add-lt row (cell_words g) i g.rows inside within in
-    let turned : cell_words g * g.rows ≡ g.rows * cell_words g = mul_comm (cell_words g) g.rows in
-    omega (arith, column_place-lt g column (row * cell_words g + i) lt (omega arith))
-
 -- a track of channel 0 is off or takes an input pad
 pub first_word-le : (k : ConfigValue) (t : ℕ) → IsConfig k → t < k.geometry.tracks → first_word k t ≤ k.geometry.input_pads
 first_word-le k t h lt = word_within k t k.geometry.input_pads h (omega arith) (get_or-limits-first k.geometry t lt)
@@ -192,26 +185,52 @@ pub pin_word-le : (k : ConfigValue) (column row pin : ℕ) → IsConfig k → co
     → pin < pin_count k.geometry → pin_word k column row pin ≤ k.geometry.tracks
 pin_word-le k column row pin h lt inside within =
     word_within k (cell_place k.geometry column row + pin) k.geometry.tracks h
-    (cell_place-lt k.geometry column row pin lt inside (omega arith))
+    (omega (arith, cell_place-le k.geometry column row inside, channel_place-le k.geometry column lt))
     (get_or-limits-pin k.geometry column row pin lt inside within)
 
--- a table is a word
-pub table-le : (k : ConfigValue) (column row : ℕ) → IsConfig k → column < k.geometry.columns → row < k.geometry.rows
-    → table k column row ≤ MAX_WORD
-table-le k column row h lt inside =
-    word_within k (cell_place k.geometry column row + pin_count k.geometry) MAX_WORD h
-    (cell_place-lt k.geometry column row (pin_count k.geometry) lt inside (omega arith))
-    (get_or-limits-table k.geometry column row lt inside)
+-- a word of a table may be any word
+pub table_word-le : (k : ConfigValue) (column row j : ℕ) → IsConfig k → column < k.geometry.columns → row < k.geometry.rows
+    → j < table_words k.geometry → table_word k column row j ≤ MAX_WORD
+table_word-le k column row j h lt inside within =
+    word_within k (table_place k.geometry column row + j) MAX_WORD h
+    (omega (arith, cell_place-le k.geometry column row inside, channel_place-le k.geometry column lt))
+    (get_or-limits-table k.geometry column row j lt inside within)
+
+-- a table has no more bits than its cell needs
+pub table-lt : (k : ConfigValue) (column row : ℕ) → IsConfig k → column < k.geometry.columns → row < k.geometry.rows
+    → table k column row < 2 ^ table_bits k.geometry
+table-lt k column row h lt inside =
+    let words : List ℕ = table_words_at k column row in
+    let count : length words ≡ table_words k.geometry = length-list_of (table_words k.geometry) (table_word k column row) in
+    let are_words : AreWords words = λ j below. let within : j < table_words k.geometry = omega arith in
+    let read : get_or words j 0 ≡ table_word k column row j = get_or-list_of (table_words k.geometry) (table_word k column row) j 0 within in
+    omega (arith, table_word-le k column row j h lt inside within) in
+    let size : WORD_BITS * length words ≡ table_bits k.geometry = ap (λ n. WORD_BITS * n) count ∙ table_words-bits k.geometry.kind in
+    let below : number_behind 0 words < (0 + 1) * 2 ^ (WORD_BITS * length words) = number_behind-lt 0 words are_words in
+    let P : ℕ → Type 0 = λ n. number_behind 0 words < 2 ^ n in
+    subst P size (omega arith)
 
 -- a track is off, kept, or takes a cell of the column
 pub track_word-le : (k : ConfigValue) (column t : ℕ) → IsConfig k → column < k.geometry.columns → t < k.geometry.tracks
     → track_word k column t ≤ k.geometry.rows + 1
 track_word-le k column t h lt inside =
     word_within k (channel_place k.geometry column + t) (k.geometry.rows + 1) h
-    (omega (arith, column_place-lt k.geometry column (k.geometry.rows * cell_words k.geometry + t) lt (omega arith)))
+    (omega (arith, channel_place-le k.geometry column lt))
     (get_or-limits-track k.geometry column t lt inside)
 
 -- an output pad is off or listens to a track
 pub output_word-le : (k : ConfigValue) (pad : ℕ) → IsConfig k → pad < k.geometry.output_pads → output_word k pad ≤ k.geometry.tracks
 output_word-le k pad h lt =
     word_within k (output_place k.geometry + pad) k.geometry.tracks h (omega arith) (get_or-limits-output k.geometry pad lt)
+
+-- all this in one
+pub has_ranges : (k : ConfigValue) → IsConfig k → HasRanges k
+has_ranges k h = record {
+  count = length-words k h;
+  first_words = λ t lt. first_word-le k t h lt;
+  pin_words = λ column row pin lt inside within. pin_word-le k column row pin h lt inside within;
+  table_words = λ column row j lt inside within. table_word-le k column row j h lt inside within;
+  tables = λ column row lt inside. table-lt k column row h lt inside;
+  track_words = λ column t lt inside. track_word-le k column t h lt inside;
+  output_words = λ pad lt. output_word-le k pad h lt;
+}

@@ -1,6 +1,6 @@
 -- Lists that a function of the place gives: their lengths and elements.
-use Rattle.std.proofs.Common.{◌≡◌, ℕ, zero, suc, ◌+◌, ◌*◌, ◌/◌, ◌%◌, ◌<◌, ⊎_elim, List, [], ◌∷◌, ◌++◌, length, get_or, All, refl, ap, sym, ◌∙◌, arith, length-append}
-use Rattle.std.proofs.lemmas.List.{length_push, get_or_push, get_or_append_left, get_or-append-add, get_or_default, same_lists, ext_get_or}
+use Rattle.std.proofs.Common.{◌≡◌, ℕ, zero, suc, ◌+◌, ◌*◌, ◌/◌, ◌%◌, ◌<◌, ⊎_elim, List, [], ◌∷◌, ◌++◌, length, map, get_or, All, refl, ap, sym, ◌∙◌, arith, length-append}
+use Rattle.std.proofs.lemmas.List.{length_push, get_or_push, get_or_append_left, get_or-append-add, get_or_default, same_lists, ext_get_or, map_push}
 use Rattle.std.proofs.lemmas.Nat.{mul-add-lt, div_below, div-add-mod'}
 use Rattle.std.proofs.Math.Nat.{mul_comm}
 use Rattle.std.proofs.lemmas.List.Elements.{All-push, All-append, All-nil}
@@ -47,6 +47,11 @@ pub All-list_of : {X : Type 0} (P : X → Type 0) (n : ℕ) (f : ℕ → X) → 
 All-list_of P zero f h = All-nil P
 All-list_of P (suc n) f h =
     All-push P (list_of n f) (f n) (All-list_of P n f (λ i lt. h i (omega arith))) (h n (omega arith))
+
+-- a function of each element of such a list
+pub map-list_of : {X Y : Type 0} (f : X → Y) (n : ℕ) (g : ℕ → X) → map f (list_of n g) ≡ list_of n (λ i. f (g i))
+map-list_of f zero g = refl
+map-list_of f (suc n) g = map_push f (list_of n g) (g n) ∙ ap (λ l. l ++ f (g n) ∷ []) (map-list_of f n g)
 
 -- n parts of one size have n times that length
 pub length-joined : {X : Type 0} (n size : ℕ) (f : ℕ → List X) → ((i : ℕ) → i < n → length (f i) ≡ size)

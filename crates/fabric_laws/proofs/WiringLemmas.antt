@@ -1,12 +1,11 @@
 -- The wiring of a configuration and input bits, column by column: it is one, and the only one.
 use Rattle.std.proofs.Common.{◌≡◌, ℕ, zero, suc, ◌+◌, ◌<◌, ◌≤◌, List, [], length, get_or, refl, ap, sym, ◌∙◌, arith}
-use Rattle.std.proofs.lemmas.Nat.{mul-add-lt}
-use Rattle.std.proofs.Math.Nat.{mul_comm}
 use Rattle.fabric_defs.specs.Numbered.{list_of, joined}
 use Rattle.fabric_defs.specs.Geometries.{GeometryValue, pin_count, cell_count, cell_number}
 use Rattle.fabric_defs.specs.Configurations.{ConfigValue, first_word, pin_word, table, track_word}
 use Rattle.fabric_defs.specs.Wirings.{Wiring, Wired, IsShaped, channel, cell_pins, pad_bit, tapped_bit, switched_bit, table_bit}
 use Rattle.fabric_laws.specs.Columns.{TakesOwnColumns}
+use Rattle.fabric_laws.proofs.LayoutLemmas.{cell_number-lt}
 use Rattle.fabric_laws.proofs.NumberedLemmas.{length-list_of, get_or-list_of, list_of_elements, get_or-rows, length-rows, rows_elements, All-list_of, All-joined}
 
 -- the bits of the pins of a cell, where the channel before it has these bits
@@ -50,11 +49,6 @@ pub switched_bit-agree : (rows a b : ℕ) (f g : ℕ → ℕ) (s : ℕ) → a �
 switched_bit-agree rows a b f g zero e h le = refl
 switched_bit-agree rows a b f g (suc zero) e h le = e
 switched_bit-agree rows a b f g (suc (suc r)) e h le = h r (omega arith)
-
--- numbers of cells are below the count
-pub cell_number-lt : (g : GeometryValue) (column row : ℕ) → column < g.columns → row < g.rows → cell_number g column row < cell_count g
-cell_number-lt g column row lt within =
-    omega (arith, mul-add-lt column g.rows row g.columns lt within, mul_comm g.rows g.columns)
 
 -- the channels of the wiring by place
 channel-wiring : (k : ConfigValue) (x : List ℕ) (c : ℕ) → c ≤ k.geometry.columns → channel (wiring k x) c ≡ channel_bits k x c

@@ -1,2 +1,2 @@
 pub mod Columns
-pub mod Bits
+pub mod Ranges

@@ -8,6 +8,4 @@
 
 mod laws;
 
-pub use laws::{
-    bytes_have_one_configuration_or_fault, configuration_has_cells, trace_has_a_verdict,
-};
+pub use laws::{configuration_has_cells, trace_has_a_verdict};

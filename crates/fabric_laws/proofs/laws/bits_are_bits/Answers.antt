@@ -1,5 +1,5 @@
 use Rattle.std.proofs.Common.{subst, sym}
-use Rattle.fabric_laws.specs.Bits.{AreBits}
+use Rattle.fabric_defs.specs.Bits.{AreBits}
 use Rattle.fabric_laws.proofs.BitLemmas.{wired_channel-bits, wired_pins-bits, wired_cells-bits, pad_bits-bits}
 use Rattle.fabric_laws.proofs.laws.bits_are_bits.Goals as goal
 

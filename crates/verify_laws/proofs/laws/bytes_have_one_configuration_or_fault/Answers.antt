@@ -1,5 +1,0 @@
-use Rattle.verify_laws.proofs.Configuration.{answer_exists, answer_unique}
-use Rattle.verify_laws.proofs.laws.bytes_have_one_configuration_or_fault.Goals as goal
-
-pub returns : goal.returns
-returns c = record { some = answer_exists; one = answer_unique }

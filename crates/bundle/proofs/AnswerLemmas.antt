@@ -1,5 +1,5 @@
 -- The answer to bytes as tests that follow one another, which is what a bundle or a fault is.
-use Rattle.std.proofs.Common.{◌≡◌, ℕ, ◌+◌, ◌-◌, ◌<◌, ◌≤◌, inl, inr, List, length, take, drop, Bool, cond, ◌&&◌, ◌==◌, Result, Ok, Err, refl, sym, ap, ◌∙◌, arith}
+use Rattle.std.proofs.Common.{◌≡◌, ℕ, ◌+◌, ◌-◌, ◌<◌, ◌≤◌, inl, inr, List, length, take, drop, Bool, cond, ◌&&◌, ◌==◌, Result, Ok, Err, refl, sym, ap, ◌∙◌, arith, subst}
 use Rattle.std.specs.Bool.{Decides}
 use Rattle.std.specs.Str.{bytes_eq}
 use Rattle.std.proofs.Math.Dec.{ltb}
@@ -8,8 +8,8 @@ use Rattle.std.proofs.lemmas.Bool.Decides.{Decides-eqb, Decides-ltb, Decides-and
 use Rattle.std.proofs.lemmas.Slice.Eq.{bytes_eq-Decides}
 use Rattle.sha2.specs.Sha256.{sha256}
 use Rattle.fabric_defs.specs.Geometries.{GeometryValue, IsGeometry}
-use Rattle.bundle_defs.specs.Bundles.{BundleValue, magic, version}
-use Rattle.bundle_defs.specs.Faults.{HasMagic, version_in, geometry_in, config_length, trace_length, HasHead, HasItsLength, HasItsDigest, BundleOf}
+use Rattle.bundle_defs.specs.Bundles.{BundleValue, magic, IsVersion}
+use Rattle.bundle_defs.specs.Faults.{HasMagic, version_in, geometry_in, config_length, trace_length, HasVersion, HasHead, HasItsLength, HasItsDigest, BundleOf}
 use Rattle.bundle_defs.specs.declared.faults.BundleError.{BundleError}
 use Rattle.bundle_defs.specs.declared.faults.BundleError.TheVariants.{Magic, Lengths, Version, Geometry, Digest}
 use Rattle.bundle.specs.Parts.{value_in}
@@ -72,7 +72,7 @@ unfoldable pub answer_in : List ℕ → Result BundleValue BundleError
 answer_in bytes =
     cond (magic_test bytes)
     (cond (ltb 5 (length bytes))
-    (cond (version_in bytes == version)
+    (cond (in_range 3 (version_in bytes))
     (cond (ltb 15 (length bytes))
     (cond (geometry_test (geometry_in bytes))
     (cond (length_test bytes) (cond (digest_test bytes) (Ok (value_in bytes)) (Err Digest)) (Err Lengths))
@@ -107,8 +107,8 @@ magic-Decides : (bytes : List ℕ) → Decides (magic_test bytes) (HasMagic byte
 magic-Decides bytes = bytes_eq-Decides (take 4 bytes) magic
 
 -- the test of the version
-version-Decides : (bytes : List ℕ) → Decides (version_in bytes == version) (version_in bytes ≡ version)
-version-Decides bytes = Decides-eqb (version_in bytes) version
+version-Decides : (bytes : List ℕ) → Decides (in_range 3 (version_in bytes)) (IsVersion (version_in bytes))
+version-Decides bytes = in_range-Decides 3 (version_in bytes)
 
 -- the test of the number of bytes
 length-Decides : (bytes : List ℕ) → Decides (length_test bytes) (HasItsLength bytes)
@@ -117,10 +117,6 @@ length-Decides bytes = Decides-eqb (length bytes) (24 + config_length bytes + tr
 -- the test of the digest
 digest-Decides : (bytes : List ℕ) → Decides (digest_test bytes) (HasItsDigest bytes)
 digest-Decides bytes = bytes_eq-Decides (drop (length bytes - 32) bytes) (sha256 (take (length bytes - 32) bytes))
-
--- as many bytes as a version needs
-six_of : (n : ℕ) → 16 ≤ n → 6 ≤ n
-six_of n h = omega arith
 
 -- fewer than k
 fewer : (k n : ℕ) → ¬ (k ≤ n) → n < k
@@ -134,13 +130,23 @@ not_so k n h = λ (e : k ≤ n). omega arith
 abbrev parts_answer : List ℕ → Result BundleValue BundleError
 parts_answer bytes = cond (length_test bytes) (cond (digest_test bytes) (Ok (value_in bytes)) (Err Digest)) (Err Lengths)
 
+-- the tests behind the version
+abbrev geometry_answer : List ℕ → Result BundleValue BundleError
+geometry_answer bytes =
+    cond (ltb 15 (length bytes)) (cond (geometry_test (geometry_in bytes)) (parts_answer bytes) (Err Geometry)) (Err Lengths)
+
+-- bytes with a version are judged by what stands behind it
+version-answer : (bytes : List ℕ) → HasVersion bytes → answer_in bytes ≡ geometry_answer bytes
+unfolding answer_in
+version-answer bytes h =
+    met (magic_test bytes) _ _ (magic-Decides bytes) h.magic
+    ∙ met (ltb 5 (length bytes)) _ _ (six-Decides (length bytes)) h.whole
+    ∙ met (in_range 3 (version_in bytes)) _ _ (version-Decides bytes) h.version
+
 -- bytes with a head are judged by what stands behind it
 head-answer : (bytes : List ℕ) → HasHead bytes → answer_in bytes ≡ parts_answer bytes
-unfolding answer_in
 head-answer bytes h =
-    met (magic_test bytes) _ _ (magic-Decides bytes) h.magic
-    ∙ met (ltb 5 (length bytes)) _ _ (six-Decides (length bytes)) (six_of (length bytes) h.whole)
-    ∙ met (version_in bytes == version) _ _ (version-Decides bytes) h.version
+    version-answer bytes h.version
     ∙ met (ltb 15 (length bytes)) _ _ (sixteen-Decides (length bytes)) h.whole
     ∙ met (geometry_test (geometry_in bytes)) _ _ (geometry_test-Decides (geometry_in bytes)) h.geometry
 
@@ -159,12 +165,12 @@ unfolding answer_in
 answer_in-is bytes h =
     either (BundleOf bytes) (magic_test bytes) _ _ (magic-Decides bytes)
     (λ m. either (BundleOf bytes) (ltb 5 (length bytes)) _ _ (six-Decides (length bytes))
-    (λ six. either (BundleOf bytes) (version_in bytes == version) _ _ (version-Decides bytes)
+    (λ six. either (BundleOf bytes) (in_range 3 (version_in bytes)) _ _ (version-Decides bytes)
     (λ v. either (BundleOf bytes) (ltb 15 (length bytes)) _ _ (sixteen-Decides (length bytes))
     (λ whole. either (BundleOf bytes) (geometry_test (geometry_in bytes)) _ _ (geometry_test-Decides (geometry_in bytes))
-    (λ g. parts_answer-is bytes h (record { magic = m; whole = whole; version = v; geometry = g }))
-    (λ not. (m, whole, v, not)))
-    (λ not. inr (inl (m, v, six, fewer 16 (length bytes) not))))
+    (λ g. parts_answer-is bytes h (record { version = record { magic = m; whole = six; version = v }; whole = whole; geometry = g }))
+    (λ not. (record { magic = m; whole = six; version = v }, whole, not)))
+    (λ not. inr (inl (record { magic = m; whole = six; version = v }, fewer 16 (length bytes) not))))
     (λ not. (m, six, refl, not)))
     (λ not. inl (m, fewer 6 (length bytes) not)))
     (λ not. not)
@@ -191,23 +197,19 @@ answer_in-only bytes (Err Lengths) (inl h) =
     met (magic_test bytes) _ _ (magic-Decides bytes) h.0
     ∙ unmet (ltb 5 (length bytes)) _ _ (six-Decides (length bytes)) (not_so 6 (length bytes) h.1)
 answer_in-only bytes (Err Lengths) (inr (inl h)) =
-    met (magic_test bytes) _ _ (magic-Decides bytes) h.0
-    ∙ met (ltb 5 (length bytes)) _ _ (six-Decides (length bytes)) h.2
-    ∙ met (version_in bytes == version) _ _ (version-Decides bytes) h.1
-    ∙ unmet (ltb 15 (length bytes)) _ _ (sixteen-Decides (length bytes)) (not_so 16 (length bytes) h.3)
+    version-answer bytes h.0
+    ∙ unmet (ltb 15 (length bytes)) _ _ (sixteen-Decides (length bytes)) (not_so 16 (length bytes) h.1)
 answer_in-only bytes (Err Lengths) (inr (inr h)) =
     head-answer bytes h.0 ∙ unmet (length_test bytes) _ _ (length-Decides bytes) h.1
 answer_in-only bytes (Err (Version found)) h =
     met (magic_test bytes) _ _ (magic-Decides bytes) h.0
     ∙ met (ltb 5 (length bytes)) _ _ (six-Decides (length bytes)) h.1
-    ∙ unmet (version_in bytes == version) _ _ (version-Decides bytes) (λ e. h.3 (h.2 ∙ e))
+    ∙ unmet (in_range 3 (version_in bytes)) _ _ (version-Decides bytes) (λ e. h.3 (subst IsVersion (sym h.2) e))
     ∙ ap other_version (sym h.2)
 answer_in-only bytes (Err Geometry) h =
-    met (magic_test bytes) _ _ (magic-Decides bytes) h.0
-    ∙ met (ltb 5 (length bytes)) _ _ (six-Decides (length bytes)) (six_of (length bytes) h.1)
-    ∙ met (version_in bytes == version) _ _ (version-Decides bytes) h.2
+    version-answer bytes h.0
     ∙ met (ltb 15 (length bytes)) _ _ (sixteen-Decides (length bytes)) h.1
-    ∙ unmet (geometry_test (geometry_in bytes)) _ _ (geometry_test-Decides (geometry_in bytes)) h.3
+    ∙ unmet (geometry_test (geometry_in bytes)) _ _ (geometry_test-Decides (geometry_in bytes)) h.2
 answer_in-only bytes (Err Digest) h =
     head-answer bytes h.0
     ∙ met (length_test bytes) _ _ (length-Decides bytes) h.1

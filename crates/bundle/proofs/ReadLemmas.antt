@@ -5,14 +5,19 @@ use Rattle.byteorder.specs.Endian.{big_bytes}
 use Rattle.byteorder.specs.Numbers.{big_from-lt}
 use Rattle.sha2.specs.Sha256.{sha256}
 use Rattle.fabric_defs.specs.Geometries.{GeometryValue}
-use Rattle.bundle_defs.specs.Bundles.{BundleValue, BundleText, magic, version, geometry_bytes, body}
-use Rattle.bundle_defs.specs.Faults.{number_at, geometry_in, config_length, trace_length, HasHead, HasItsLength, HasItsDigest}
+use Rattle.bundle_defs.specs.Bundles.{BundleValue, BundleText, magic, geometry_bytes, body}
+use Rattle.bundle_defs.specs.Faults.{number_at, version_in, geometry_in, config_length, trace_length, HasHead, HasItsLength, HasItsDigest}
 use Rattle.bundle.specs.Parts.{value_in}
 use Rattle.bundle.proofs.NumberLemmas.{AreBytes, take_on, part_on, length-part, small_number-spelled, length-spelled}
 
 -- the parts at these places
-abbrev pub parts : GeometryValue → ℕ → ℕ → ℕ → List ℕ → BundleValue
-parts g n m place bytes = record { geometry = g; config = take n (drop 20 bytes); trace = take m (drop place bytes) }
+abbrev pub parts : ℕ → GeometryValue → ℕ → ℕ → ℕ → List ℕ → BundleValue
+parts version g n m place bytes = record {
+  version = version;
+  geometry = g;
+  config = take n (drop 20 bytes);
+  trace = take m (drop place bytes);
+}
 
 -- the five numbers of a geometry that follow one another
 five_parts : (xs a b c d e : List ℕ) → a ≡ take 2 (drop 6 xs) → b ≡ take 2 (drop 8 xs) → c ≡ take 2 (drop 10 xs)
@@ -49,14 +54,14 @@ seven_parts c t xs m v g cl co tl tr em ev eg ecl eco etl etr =
 -- the parts before the digest, by their lengths
 body-parts : (bytes : List ℕ) (c t : ℕ) → AreBytes bytes → HasHead bytes → 24 + c + t ≤ length bytes
     → c ≡ number_at 16 4 bytes → t ≡ number_at (20 + c) 4 bytes
-    → body (record { geometry = geometry_in bytes; config = take c (drop 20 bytes); trace = take t (drop (24 + c) bytes) })
+    → body (parts (version_in bytes) (geometry_in bytes) c t (24 + c) bytes)
     ≡ take (24 + c + t) bytes
 body-parts bytes c t h head within ec et =
-    seven_parts c t bytes magic (big_bytes 2 version) (geometry_bytes (geometry_in bytes))
+    seven_parts c t bytes magic (big_bytes 2 (version_in bytes)) (geometry_bytes (geometry_in bytes))
     (big_bytes 4 (length (take c (drop 20 bytes)))) (take c (drop 20 bytes))
     (big_bytes 4 (length (take t (drop (24 + c) bytes)))) (take t (drop (24 + c) bytes))
-    (sym head.magic)
-    (ap (big_bytes 2) (sym head.version) ∙ small_number-spelled 4 bytes h (omega arith))
+    (sym head.version.magic)
+    (small_number-spelled 4 bytes h (omega arith))
     (geometry-spelled bytes h head.whole)
     (ap (big_bytes 4) (length-part 20 c bytes (omega arith) ∙ ec) ∙ length-spelled 16 bytes h (omega arith))
     refl
@@ -78,11 +83,15 @@ number_within n place bytes part h en el =
 -- the same with the lengths by their names
 parts-text : (bytes : List ℕ) (c t : ℕ) → AreBytes bytes → HasHead bytes → HasItsDigest bytes
     → length bytes ≡ 24 + c + t + 32 → c ≡ number_at 16 4 bytes → t ≡ number_at (20 + c) 4 bytes
-    → BundleText bytes (record { geometry = geometry_in bytes; config = take c (drop 20 bytes); trace = take t (drop (24 + c) bytes) })
+    → BundleText bytes (parts (version_in bytes) (geometry_in bytes) c t (24 + c) bytes)
 parts-text bytes c t h head digest whole ec et = record {
-  geometry = head.geometry;
-  config_within = number_within c 16 bytes (take c (drop 20 bytes)) h ec (length-part 20 c bytes (omega arith));
-  trace_within = number_within t (20 + c) bytes (take t (drop (24 + c) bytes)) h et (length-part (24 + c) t bytes (omega arith));
+  bundle = record {
+    version = head.version.version;
+    kind = refl;
+    geometry = head.geometry;
+    config = number_within c 16 bytes (take c (drop 20 bytes)) h ec (length-part 20 c bytes (omega arith));
+    trace = number_within t (20 + c) bytes (take t (drop (24 + c) bytes)) h et (length-part (24 + c) t bytes (omega arith));
+  };
   text = with_digest bytes _ (24 + c + t) (omega arith) digest (body-parts bytes c t h head (omega arith) ec et);
 }
 
@@ -92,11 +101,12 @@ value_in-text bytes h head whole digest =
     parts-text bytes (config_length bytes) (trace_length bytes) h head digest whole refl refl
 
 -- two values with the same parts
-same_value : (bytes : List ℕ) (g g' : GeometryValue) (n n' m m' place place' : ℕ) → g ≡ g' → n ≡ n' → m ≡ m' → place ≡ place'
-    → parts g n m place bytes ≡ parts g' n' m' place' bytes
-same_value bytes g g' n n' m m' place place' eg en em ep =
-    ap (λ (x : GeometryValue). parts x n m place bytes) eg ∙ ap (λ (x : ℕ). parts g' x m place bytes) en
-    ∙ ap (λ (x : ℕ). parts g' n' x place bytes) em ∙ ap (λ (x : ℕ). parts g' n' m' x bytes) ep
+same_parts : (bytes : List ℕ) (v v' : ℕ) (g g' : GeometryValue) (n n' m m' place place' : ℕ)
+    → v ≡ v' → g ≡ g' → n ≡ n' → m ≡ m' → place ≡ place' → parts v g n m place bytes ≡ parts v' g' n' m' place' bytes
+same_parts bytes v v' g g' n n' m m' place place' ev eg en em ep =
+    ap (λ (x : ℕ). parts x g n m place bytes) ev ∙ ap (λ (x : GeometryValue). parts v' x n m place bytes) eg
+    ∙ ap (λ (x : ℕ). parts v' g' x m place bytes) en ∙ ap (λ (x : ℕ). parts v' g' n' x place bytes) em
+    ∙ ap (λ (x : ℕ). parts v' g' n' m' x bytes) ep
 
 -- how long the parts are, by the place of the trace's length
 lengths_by_place : (whole place c t : ℕ) → place ≡ 20 + c → whole ≡ 24 + c + t + 32
@@ -104,11 +114,13 @@ lengths_by_place : (whole place c t : ℕ) → place ≡ 20 + c → whole ≡ 24
 lengths_by_place whole place c t ep ew = (omega arith, omega arith, omega arith)
 
 -- the same by the place of the trace's length
-pub parts_at-text : (bytes : List ℕ) (g : GeometryValue) (place : ℕ) → AreBytes bytes → HasHead bytes → HasItsLength bytes → HasItsDigest bytes
-    → g ≡ geometry_in bytes → place ≡ 20 + config_length bytes
-    → BundleText bytes (parts g (place - 20) (length bytes - 32 - (place + 4)) (place + 4) bytes)
-parts_at-text bytes g place h head whole digest eg ep =
+pub parts_at-text : (bytes : List ℕ) (version : ℕ) (g : GeometryValue) (place : ℕ) → AreBytes bytes → HasHead bytes
+    → HasItsLength bytes → HasItsDigest bytes → version ≡ version_in bytes → g ≡ geometry_in bytes
+    → place ≡ 20 + config_length bytes
+    → BundleText bytes (parts version g (place - 20) (length bytes - 32 - (place + 4)) (place + 4) bytes)
+parts_at-text bytes version g place h head whole digest ev eg ep =
     let lengths = lengths_by_place (length bytes) place (config_length bytes) (trace_length bytes) ep whole in
     subst (BundleText bytes)
-    (same_value bytes (geometry_in bytes) g _ _ _ _ _ _ (sym eg) lengths.0 lengths.1 lengths.2)
+    (same_parts bytes (version_in bytes) version (geometry_in bytes) g _ _ _ _ _ _ (sym ev) (sym eg)
+    lengths.0 lengths.1 lengths.2)
     (value_in-text bytes h head whole digest)

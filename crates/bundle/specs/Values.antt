@@ -7,7 +7,7 @@ use Rattle.bundle.specs.declared.value.Bundle.{Bundle}
 
 -- the parts, whose bytes are borrowed
 abbrev pub value_of : Bundle → BundleValue
-value_of b = record { geometry = b.geometry; config = b.config.now; trace = b.trace.now }
+value_of b = record { version = b.version; geometry = b.geometry; config = b.config.now; trace = b.trace.now }
 
 -- the answer is the bundle of the bytes, or their first fault
 abbrev pub Gives : List ℕ → Result Bundle BundleError → Type 0

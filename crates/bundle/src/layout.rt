@@ -1,5 +1,8 @@
-/// The version that is read and printed.
-pub(crate) const VERSION: u16 = 1;
+/// The greatest version; the least is 1.
+pub(crate) const LAST_VERSION: u16 = 3;
+
+/// The version whose fabrics have cells of six inputs.
+pub(crate) const SIX_INPUTS_VERSION: u16 = 3;
 
 /// How many bytes stand before the configuration: `PCHB`, the version, the geometry and the
 /// configuration's length.

@@ -1,30 +1,35 @@
 ghost use Rattle.std.specs.Prelude.{◌≡◌, ◌+◌, ◌^◌, ◌<◌, ◌++◌, length, IfOk, OnOk};
 ghost use Rattle.byteorder.specs.Endian.{big_bytes};
 ghost use Rattle.sha2.specs.Sha256.{sha256};
-ghost use Rattle.bundle_defs.specs.Bundles.{body, bundle_bytes, geometry_bytes};
+ghost use Rattle.bundle_defs.specs.Bundles.{IsVersion, kind_of_version, body, bundle_bytes, geometry_bytes};
 
-use crate::layout::{DIGEST_BYTES, HEAD_BYTES, LENGTH_BYTES, VERSION};
+use crate::layout::{DIGEST_BYTES, HEAD_BYTES, LENGTH_BYTES};
 use byteorder::{BigEndian, ByteOrder};
 use fabric::Geometry;
 use pch_base::NoMemory;
 use sha2::{Digest, Sha256};
 use std::alloc::Global;
 
-/// The bytes of the bundle of these parts. Each part has fewer than 2^32 bytes.
+/// The bytes of the bundle of these parts. The version is 1, 2 or 3, and 3 exactly where the cells of the
+/// geometry have six inputs. Each part has fewer than 2^32 bytes.
 pub fn print_bundle(
     alloc: Global,
+    version: u16,
     g: Geometry,
     config: &[u8],
     trace: &[u8],
 ) -> Result<Vec<u8>, NoMemory>
+    requires version { IsVersion version }
+    requires kind { g.kind ≡ kind_of_version version }
     requires config { length config.now < 2 ^ 32 }
     requires trace { length trace.now < 2 ^ 32 }
-    ensures { IfOk result (λ v. v.items ≡ bundle_bytes (record { geometry = g; config = config.now; trace = trace.now })) }
+    ensures { IfOk result (λ v. v.items
+        ≡ bundle_bytes (record { version = version; geometry = g; config = config.now; trace = trace.now })) }
 {
     let length = HEAD_BYTES + config.len() + LENGTH_BYTES + trace.len() + DIGEST_BYTES;
     let mut out = Vec::with_capacity(alloc, length)?;
     out.extend_from_slice(b"PCHB")?;
-    append_small_number(&mut out, VERSION)?;
+    append_small_number(&mut out, version)?;
     append_geometry(&mut out, g)?;
     append_part(&mut out, config)?;
     append_part(&mut out, trace)?;

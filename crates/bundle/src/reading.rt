@@ -1,9 +1,11 @@
 ghost use Rattle.std.specs.Prelude.{◌≡◌, ◌+◌, ◌^◌, ◌<◌, ◌≤◌, ◌↔◌, length, IsTrue, IsSome, IfSome, IfOk, IfErr, Err};
 ghost use Rattle.fabric_defs.specs.Geometries.{IsGeometry};
-ghost use Rattle.bundle_defs.specs.Faults.{HasMagic, HasHead, HasItsLength, HasItsDigest, BundleOf, number_at, geometry_in, config_length};
+ghost use Rattle.fabric_defs.specs.declared.kind.CellKind.TheVariants.{FourInputs};
+ghost use Rattle.bundle_defs.specs.Bundles.{kind_of_version};
+ghost use Rattle.bundle_defs.specs.Faults.{HasVersion, HasHead, HasItsLength, HasItsDigest, BundleOf, number_at, version_in, geometry_in, config_length};
 ghost use Rattle.bundle.specs.Values.{Gives};
 
-use crate::layout::{DIGEST_BYTES, HEAD_BYTES, LENGTH_BYTES, VERSION};
+use crate::layout::{DIGEST_BYTES, HEAD_BYTES, LAST_VERSION, LENGTH_BYTES, SIX_INPUTS_VERSION};
 use crate::value::Bundle;
 use bundle_defs::BundleError;
 use byteorder::{BigEndian, ByteOrder};
@@ -17,7 +19,8 @@ use sha2::{Digest, Sha256};
 pub fn read_bundle(b: &[u8]) -> Result<Bundle<'_>, BundleError>
     ensures { Gives b.now result }
 {
-    let geometry = read_head(b)?;
+    let version = read_version(b)?;
+    let geometry = read_geometry(b, version)?;
     let Some(place) = trace_length_place(b) else {
         return Err(BundleError::Lengths);
     };
@@ -26,15 +29,16 @@ pub fn read_bundle(b: &[u8]) -> Result<Bundle<'_>, BundleError>
     }
     let digest_place = b.len() - DIGEST_BYTES;
     Ok(Bundle {
+        version,
         geometry,
         config: &b[HEAD_BYTES..place],
         trace: &b[place + LENGTH_BYTES..digest_place],
     })
 }
 
-/// The geometry, or the first fault before the lengths.
-fn read_head(b: &[u8]) -> Result<Geometry, BundleError>
-    ensures head { IfOk result (λ g. HasHead b.now × (g ≡ geometry_in b.now)) }
+/// The version, or the first fault up to it.
+fn read_version(b: &[u8]) -> Result<u16, BundleError>
+    ensures version { IfOk result (λ version. HasVersion b.now × (version ≡ version_in b.now)) }
     ensures fault { IfErr result (λ e. BundleOf b.now (Err e)) }
 {
     if !b.starts_with(b"PCHB") {
@@ -44,28 +48,55 @@ fn read_head(b: &[u8]) -> Result<Geometry, BundleError>
         return Err(BundleError::Lengths);
     }
     let found = small_number_at(b, 4);
-    if found != u32::from(VERSION) {
-        return Err(BundleError::Version { found });
+    if 1 <= found && found <= LAST_VERSION {
+        Ok(found)
+    } else {
+        Err(BundleError::Version {
+            found: u32::from(found),
+        })
     }
+}
+
+/// The geometry behind the version, or the first fault up to it.
+fn read_geometry(b: &[u8], version: u16) -> Result<Geometry, BundleError>
+    requires start { HasVersion b.now }
+    requires version { version ≡ version_in b.now }
+    ensures head { IfOk result (λ g. HasHead b.now × (g ≡ geometry_in b.now)) }
+    ensures fault { IfErr result (λ e. BundleOf b.now (Err e)) }
+{
     if b.len() < 16 {
         return Err(BundleError::Lengths);
     }
-    geometry_at(b).ok_or(BundleError::Geometry)
+    geometry_at(b, version).ok_or(BundleError::Geometry)
 }
 
-/// The geometry behind the version, if its numbers are within their limits.
-fn geometry_at(b: &[u8]) -> Option<Geometry>
-    requires { 16 ≤ length b.now }
+/// The geometry whose numbers stand behind the version, if they are within their limits.
+fn geometry_at(b: &[u8], version: u16) -> Option<Geometry>
+    requires whole { 16 ≤ length b.now }
+    requires version { version ≡ version_in b.now }
     ensures some { IsSome result ↔ IsGeometry (geometry_in b.now) }
     ensures value { IfSome result (λ g. g ≡ geometry_in b.now) }
 {
-    Geometry::new(
-        small_number_at(b, 6),
-        small_number_at(b, 8),
-        small_number_at(b, 10),
-        small_number_at(b, 12),
-        small_number_at(b, 14),
-    )
+    let geometry = Geometry::new(
+        u32::from(small_number_at(b, 6)),
+        u32::from(small_number_at(b, 8)),
+        u32::from(small_number_at(b, 10)),
+        u32::from(small_number_at(b, 12)),
+        u32::from(small_number_at(b, 14)),
+    )?;
+    Some(of_kind(geometry, version))
+}
+
+/// The geometry of cells of four inputs, with the kind that the version tells.
+fn of_kind(geometry: Geometry, version: u16) -> Geometry
+    requires { geometry.kind ≡ FourInputs }
+    ensures { result ≡ record geometry { kind = kind_of_version version } }
+{
+    if version == SIX_INPUTS_VERSION {
+        geometry.six()
+    } else {
+        geometry
+    }
 }
 
 /// Where the trace's length stands, if there are exactly as many bytes as both lengths demand.
@@ -98,18 +129,18 @@ fn has_its_digest(b: &[u8]) -> bool
 }
 
 /// The number of two bytes at a place.
-fn small_number_at(b: &[u8], place: usize) -> u32
+fn small_number_at(b: &[u8], place: usize) -> u16
     requires { place + 2 ≤ length b.now }
     ensures { result ≡ number_at place 2 b.now }
 {
-    u32::from(BigEndian::read_u16(&b[place..]))
+    BigEndian::read_u16(&b[place..])
 }
 
 /// The number of four bytes at a place.
 fn length_at(b: &[u8], place: usize) -> usize
-    requires { place + LENGTH_BYTES ≤ length b.now }
+    requires { place + 4 ≤ length b.now }
+    ensures within { result < 2 ^ 32 }
     ensures value { result ≡ number_at place 4 b.now }
-    ensures small { result < 2 ^ 32 }
 {
     BigEndian::read_u32(&b[place..]) as usize
 }

@@ -47,11 +47,16 @@ HasItsLength bytes = length bytes ≡ 24 + config_length bytes + trace_length by
 abbrev pub HasItsDigest : List ℕ → Type 0
 HasItsDigest bytes = drop (length bytes - 32) bytes ≡ sha256 (take (length bytes - 32) bytes)
 
--- `PCHB`, one of the versions, and a geometry within its limits
-pub record HasHead (bytes : List ℕ) : Type 0 where
+-- `PCHB` and one of the versions
+pub record HasVersion (bytes : List ℕ) : Type 0 where
   pub magic : HasMagic bytes
-  pub whole : 16 ≤ length bytes
+  pub whole : 6 ≤ length bytes
   pub version : IsVersion (version_in bytes)
+
+-- and a geometry within its limits
+pub record HasHead (bytes : List ℕ) : Type 0 where
+  pub version : HasVersion bytes
+  pub whole : 16 ≤ length bytes
   pub geometry : IsGeometry (geometry_in bytes)
 
 -- the value of the bytes, or their first fault
@@ -60,10 +65,10 @@ BundleOf bytes (Ok v) = BundleText bytes v
 BundleOf bytes (Err Magic) = ¬ HasMagic bytes
 BundleOf bytes (Err Lengths) =
     (HasMagic bytes × (length bytes < 6))
-    ⊎ ((HasMagic bytes × IsVersion (version_in bytes) × (6 ≤ length bytes) × (length bytes < 16))
+    ⊎ ((HasVersion bytes × (length bytes < 16))
     ⊎ (HasHead bytes × ¬ HasItsLength bytes))
 BundleOf bytes (Err (Version found)) =
     HasMagic bytes × (6 ≤ length bytes) × (found ≡ version_in bytes) × ¬ IsVersion found
 BundleOf bytes (Err Geometry) =
-    HasMagic bytes × (16 ≤ length bytes) × IsVersion (version_in bytes) × ¬ IsGeometry (geometry_in bytes)
+    HasVersion bytes × (16 ≤ length bytes) × ¬ IsGeometry (geometry_in bytes)
 BundleOf bytes (Err Digest) = HasHead bytes × HasItsLength bytes × ¬ HasItsDigest bytes

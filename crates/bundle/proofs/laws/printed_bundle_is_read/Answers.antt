@@ -4,6 +4,6 @@ use Rattle.bundle.proofs.AnswerLemmas.{answer_in-only}
 use Rattle.bundle.proofs.laws.printed_bundle_is_read.Goals as goal
 
 pub returns : goal.returns
-returns c v answer geometry config trace h =
+returns c v answer bundle h =
     sym (answer_in-only (bundle_bytes v) answer h)
-    ∙ answer_in-only (bundle_bytes v) (Ok v) (record { geometry = geometry; config_within = config; trace_within = trace; text = refl })
+    ∙ answer_in-only (bundle_bytes v) (Ok v) (record { bundle = bundle; text = refl })

@@ -3,3 +3,4 @@ pub mod ClauseLemmas
 pub mod Soundness
 pub mod Uniqueness
 pub mod ClauseOf
+pub mod TraceLemmas

@@ -1,10 +1,11 @@
--- What `number_in` computes is the number that a text spells.
-use Rattle.std.proofs.Common.{◌≡◌, ℕ, zero, suc, ◌+◌, ◌-◌, ◌*◌, ◌^◌, ◌<◌, ◌≤◌, ◌==◌, Bool, true, false, ◌&&◌, List, [], ◌∷◌, length, get_or, decimal, Option, Some, None, if◌then◌else◌, eq-eqb, ne_eqb, refl, ap, sym, ◌∙◌, arith, rules}
+-- What is computed of a text is the number that the text spells.
+use Rattle.std.proofs.Common.{◌≡◌, ℕ, zero, suc, ◌+◌, ◌-◌, ◌*◌, ◌^◌, ◌<◌, ◌≤◌, ◌==◌, ◌⊎◌, inl, inr, nat_le, Bool, true, false, ◌&&◌, List, [], ◌∷◌, length, get_or, decimal, Option, Some, None, if◌then◌else◌, eq-eqb, ne_eqb, refl, ap, sym, ◌∙◌, arith, rules}
+use Rattle.std.proofs.lemmas.Bool.{cases_Bool, cases_eq, leb-true, le-leb, lt-leb}
 use Rattle.std.specs.Char.{is_ascii_digit}
 use Rattle.std.specs.Str.{all_ascii_digits}
 use Rattle.std.proofs.lemmas.Str.Parse.{IsNumeralModel, numerals_by_fold}
 use Rattle.std.proofs.lemmas.Fmt.{digits_decimal, digits_value-decimal, decimal-digits_value, decimal_nonempty, decimal_digit, first_decimal}
-use Rattle.text_defs.specs.Numbers.{Spells, number_from, number_in}
+use Rattle.text_defs.specs.Numbers.{Spells, number_from, number_in, at_most, at_least_one, number_within, positive_within}
 
 -- the number whose digits are those of n and then these
 abbrev read_on : ℕ → List ℕ → ℕ
@@ -97,3 +98,117 @@ spelled_from-number_in text n h e =
     let v : read_on 0 text ≡ n = found.1 in
     let small : read_on 0 text < 2 ^ 64 = omega arith in
     sym (decimal-digits_value own text found.0.digits found.0.nonempty found.0.leading small) ∙ ap decimal v
+
+-- ---- numbers up to a greatest one
+
+at_most-cases : (max n m : ℕ) (t : Bool) → nat_le m max ≡ t → (if t then Some m else None) ≡ Some n → (m ≡ n) × (n ≤ max)
+at_most-cases max n m true e h = let same : m ≡ n = cc in let le : m ≤ max = leb-true m max e in (same, omega arith)
+at_most-cases max n m false e h = absurd (cc)
+
+-- a number up to the greatest is there, and at most the greatest
+pub at_most-some : (max n : ℕ) (o : Option ℕ) → at_most max o ≡ Some n → (o ≡ Some n) × (n ≤ max)
+at_most-some max n None h = absurd (cc)
+at_most-some max n (Some m) h = let found = at_most-cases max n m (nat_le m max) refl h in (ap Some found.0, found.1)
+
+-- a number that is at most the greatest is kept
+pub at_most-within : (max n : ℕ) → n ≤ max → at_most max (Some n) ≡ Some n
+at_most-within max n h = rw (le-leb n max h) refl
+
+at_most-over : (max n : ℕ) → max < n → at_most max (Some n) ≡ None
+at_most-over max n h = rw (lt-leb n max h) refl
+
+above : (max n : ℕ) (o : Option ℕ) → max < n → ((m : ℕ) → o ≡ Some m → n ≤ m) → at_most max o ≡ None
+above max n None far h = refl
+above max n (Some m) far h = at_most-over max m (let le : n ≤ m = h m refl in omega arith)
+
+-- a number above the greatest stays above it, whichever digits follow
+pub at_most-above : (max n : ℕ) (ds : List ℕ) → max < n → at_most max (number_from n ds) ≡ None
+at_most-above max n ds far = above max n (number_from n ds) far (λ m e. number_from-le n ds m e)
+
+-- the number up to the greatest that is computed of a text is spelled by it
+pub number_within-spelled : (max n : ℕ) (w : List ℕ) → max < 2 ^ 64 → number_within max w ≡ Some n → Spells w n × (n ≤ max)
+number_within-spelled max n w small h =
+    let found = at_most-some max n (number_in w) h in
+    let le : n ≤ max = found.1 in
+    (spelled_from-number_in w n (omega arith) found.0, le)
+
+-- a number up to the greatest is computed of the text that spells it
+pub spelled-number_within : (max n : ℕ) (w : List ℕ) → max < 2 ^ 64 → Spells w n → n ≤ max → number_within max w ≡ Some n
+spelled-number_within max n w small e le = ap (at_most max) (number_in-spelled w n (omega arith) e) ∙ at_most-within max n le
+
+at_least-cases : (n m : ℕ) (t : Bool) → nat_le 1 m ≡ t → (if t then Some m else None) ≡ Some n → (m ≡ n) × (1 ≤ n)
+at_least-cases n m true e h = let same : m ≡ n = cc in let le : 1 ≤ m = leb-true 1 m e in (same, omega arith)
+at_least-cases n m false e h = absurd (cc)
+
+-- a number that isn't 0 is there, and from 1 on
+pub at_least_one-some : (n : ℕ) (o : Option ℕ) → at_least_one o ≡ Some n → (o ≡ Some n) × (1 ≤ n)
+at_least_one-some n None h = absurd (cc)
+at_least_one-some n (Some m) h = let found = at_least-cases n m (nat_le 1 m) refl h in (ap Some found.0, found.1)
+
+-- the number from 1 to the greatest that is computed of a text is spelled by it
+pub positive_within-spelled : (max n : ℕ) (w : List ℕ) → max < 2 ^ 64 → positive_within max w ≡ Some n → Spells w n × (1 ≤ n) × (n ≤ max)
+positive_within-spelled max n w small h =
+    let found = at_least_one-some n (number_within max w) h in
+    let spelled = number_within-spelled max n w small found.0 in
+    (spelled.0, found.1, spelled.1)
+
+-- a number from 1 to the greatest is computed of the text that spells it
+pub spelled-positive_within : (max n : ℕ) (w : List ℕ) → max < 2 ^ 64 → Spells w n → 1 ≤ n → n ≤ max → positive_within max w ≡ Some n
+spelled-positive_within max n w small e low le =
+    ap at_least_one (spelled-number_within max n w small e le) ∙ (rw (le-leb 1 n low) refl)
+
+-- ---- digit by digit, as a reader goes
+
+number_from-first : (b : ℕ) (bs : List ℕ) → 48 ≤ b → b ≤ 57 → number_from 0 (b ∷ bs) ≡ number_from (b - 48) bs
+number_from-first b bs low high =
+    let digit : is_ascii_digit b ≡ true = rw (le-leb 48 b low, le-leb b 57 high) refl in
+    let zero : 10 * 0 + (b - 48) ≡ b - 48 = omega arith in
+    rw digit (ap (λ (v : ℕ). number_from v bs) zero)
+
+number_in-first : (b : ℕ) (bs : List ℕ) → 48 < b → b ≤ 57 → number_in (b ∷ bs) ≡ number_from (b - 48) bs
+number_in-first b [] low high = number_from-first b [] (omega arith) high
+number_in-first b (c ∷ cs) low high = rw (ne_eqb b 48 (λ e. omega arith)) (number_from-first b (c ∷ cs) (omega arith) high)
+
+at_least_one-kept : (max n : ℕ) (o : Option ℕ) → 1 ≤ n → ((m : ℕ) → o ≡ Some m → n ≤ m) → at_least_one (at_most max o) ≡ at_most max o
+at_least_one-kept max n None low h = refl
+at_least_one-kept max n (Some m) low h = elim (cases_Bool (nat_le m max)) [
+  | inl e ↦ rw e (rw (le-leb 1 m (let le : n ≤ m = h m refl in omega arith)) refl)
+  | inr e ↦ rw e refl
+]
+
+-- a text that begins with a digit 1 to 9 spells what its digits give
+pub positive_within-first : (max b : ℕ) (bs : List ℕ) → 48 < b → b ≤ 57 → positive_within max (b ∷ bs) ≡ at_most max (number_from (b - 48) bs)
+positive_within-first max b bs low high =
+    ap (λ o. at_least_one (at_most max o)) (number_in-first b bs low high)
+    ∙ at_least_one-kept max (b - 48) (number_from (b - 48) bs) (omega arith) (λ m e. number_from-le (b - 48) bs m e)
+
+no_digit : (n b : ℕ) (bs : List ℕ) → is_ascii_digit b ≡ false → number_from n (b ∷ bs) ≡ None
+no_digit n b bs e = rw e refl
+
+number_in-other : (b : ℕ) (bs : List ℕ) → is_ascii_digit b ≡ false → number_in (b ∷ bs) ≡ None
+number_in-other b [] e = no_digit 0 b [] e
+number_in-other b (c ∷ cs) e = elim (cases_Bool (b == 48)) [
+  | inl z ↦ rw z refl
+  | inr z ↦ rw z (no_digit 0 b (c ∷ cs) e)
+]
+
+zero_first : (max : ℕ) (bs : List ℕ) → positive_within max (48 ∷ bs) ≡ None
+zero_first max [] = rw (le-leb 0 max (omega arith)) refl
+zero_first max (c ∷ cs) = refl
+
+digit_or_not : (b : ℕ) → (b ≤ 48) ⊎ (57 < b) → (b ≡ 48) ⊎ (is_ascii_digit b ≡ false)
+digit_or_not b (inl low) = elim (cases_eq b 48) [
+  | inl e ↦ inl e
+  | inr e ↦ inr (rw (lt-leb 48 b (grind (arith, e))) refl)
+]
+digit_or_not b (inr high) = inr (elim (cases_Bool (nat_le 48 b)) [
+  | inl e ↦ rw (e, lt-leb b 57 high) refl
+  | inr e ↦ rw e refl
+])
+
+-- a text that begins with another byte spells no number from 1 on
+pub positive_within-other : (max b : ℕ) (bs : List ℕ) → (b ≤ 48) ⊎ (57 < b) → positive_within max (b ∷ bs) ≡ None
+positive_within-other max b bs h = elim (digit_or_not b h) [
+  | inl e ↦ ap (λ (c : ℕ). positive_within max (c ∷ bs)) e ∙ zero_first max bs
+  | inr e ↦ ap (λ o. at_least_one (at_most max o)) (number_in-other b bs e)
+]

@@ -61,15 +61,15 @@ node_clauses net v =
 
 -- where pin j has bit j of n, for each j, the cell has bit n of its table
 abbrev pub table_clause : Network → CellsValue → ℕ → ℕ → Lits
-table_clause net l k n =
-    list_of (length (cell_at l k).pins)
-    (λ j. literal (source_variable net l (slice_index_or (cell_at l k).pins j NoSource)) (bit_at n j == 0))
-    ++ literal (cell_variable net l k) (bit_at (cell_at l k).table n == 1) ∷ []
+table_clause net cells k n =
+    list_of (length (cell_at cells k).pins)
+    (λ j. literal (source_variable net cells (slice_index_or (cell_at cells k).pins j NoSource)) (bit_at n j == 0))
+    ++ literal (cell_variable net cells k) (bit_at (cell_at cells k).table n == 1) ∷ []
 
 -- a cell of the cone has a clause for each bit of its table; the other cells have none
 abbrev pub cell_clauses : Network → CellsValue → ℕ → List Lits
-cell_clauses net l k =
-    if in_cone l k then list_of (table_bits l.geometry) (table_clause net l k) else []
+cell_clauses net cells k =
+    if in_cone cells k then list_of (table_bits cells.geometry) (table_clause net cells k) else []
 
 -- the difference is true exactly where the two are not the same
 abbrev pub difference_clauses : ℕ → ℕ → ℕ → List Lits
@@ -86,26 +86,26 @@ no_output = record { name = []; signal = 0 }
 
 -- output o of the network and output pad o
 abbrev pub output_clauses : Network → CellsValue → ℕ → List Lits
-output_clauses net l o =
-    difference_clauses (difference_variable net l o)
+output_clauses net cells o =
+    difference_clauses (difference_variable net cells o)
     (signal_variable (slice_index_or net.outputs o no_output).signal)
-    (source_variable net l (slice_index_or l.outputs o NoSource))
+    (source_variable net cells (slice_index_or cells.outputs o NoSource))
 
 -- all clauses but the last: both circuits, and what the differences are
 abbrev pub circuit_clauses : Network → CellsValue → List Lits
-circuit_clauses net l =
+circuit_clauses net cells =
     (negative zero_variable ∷ [])
     ∷ joined (length net.nodes) (node_clauses net)
-    ++ joined (length l.cells) (cell_clauses net l)
-    ++ joined (length net.outputs) (output_clauses net l)
+    ++ joined (length cells.cells) (cell_clauses net cells)
+    ++ joined (length net.outputs) (output_clauses net cells)
 
 -- some output differs
 abbrev pub some_difference : Network → CellsValue → Lits
-some_difference net l = list_of (length net.outputs) (λ o. positive (difference_variable net l o))
+some_difference net cells = list_of (length net.outputs) (λ o. positive (difference_variable net cells o))
 
 -- each clause is the set of its literals, in their order
 abbrev pub Miter : Network → CellsValue → Formula
-Miter net l = record {
-  variables = variable_count net l;
-  clauses = map clause_of (circuit_clauses net l ++ some_difference net l ∷ []);
+Miter net cells = record {
+  variables = variable_count net cells;
+  clauses = map clause_of (circuit_clauses net cells ++ some_difference net cells ∷ []);
 }

@@ -30,26 +30,26 @@ row_variable net v r = 2 + signals net + rows_before net v + r
 
 -- how many cells of the cone have a lower number
 abbrev pub cone_before : CellsValue → ℕ → ℕ
-cone_before l k = count_by (λ (inside : Bool). inside) (take k l.cone)
+cone_before cells k = count_by (λ (inside : Bool). inside) (take k cells.cone)
 
 -- how many cells the cone has
 abbrev pub cone_size : CellsValue → ℕ
-cone_size l = count_by (λ (inside : Bool). inside) l.cone
+cone_size cells = count_by (λ (inside : Bool). inside) cells.cone
 
 -- cell k of the cone
 abbrev pub cell_variable : Network → CellsValue → ℕ → ℕ
-cell_variable net l k = 2 + signals net + row_count net + cone_before l k
+cell_variable net cells k = 2 + signals net + row_count net + cone_before cells k
 
 -- the difference of output o
 abbrev pub difference_variable : Network → CellsValue → ℕ → ℕ
-difference_variable net l o = 2 + signals net + row_count net + cone_size l + o
+difference_variable net cells o = 2 + signals net + row_count net + cone_size cells + o
 
 -- how many variables there are
 abbrev pub variable_count : Network → CellsValue → ℕ
-variable_count net l = 1 + signals net + row_count net + cone_size l + length net.outputs
+variable_count net cells = 1 + signals net + row_count net + cone_size cells + length net.outputs
 
 -- a pad past the inputs of the network is 0
 abbrev pub source_variable : Network → CellsValue → Source → ℕ
-source_variable net l Zero = zero_variable
-source_variable net l (Pad p) = if nat_lt p (length net.inputs) then signal_variable p else zero_variable
-source_variable net l (Cell k) = cell_variable net l k
+source_variable net cells Zero = zero_variable
+source_variable net cells (Pad p) = if nat_lt p (length net.inputs) then signal_variable p else zero_variable
+source_variable net cells (Cell k) = cell_variable net cells k

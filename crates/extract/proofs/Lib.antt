@@ -1,4 +1,1 @@
-pub mod PlaceLemmas
-pub mod WalkLemmas
-pub mod FlatLemmas
-pub mod ConeLemmas
+pub mod CellListLemmas

@@ -1,2 +1,3 @@
-pub mod Flat
+pub mod CellLists
+pub mod Kept
 pub mod Walks

@@ -1,30 +1,32 @@
 -- What is known while the columns of a configuration are passed.
-use Rattle.std.specs.Prelude.{◌≡◌, ℕ, ◌/◌, ◌%◌, ◌<◌, List, length, map, slice_index_or}
+use Rattle.std.specs.Prelude.{◌≡◌, ℕ, ◌<◌, Bool, true, false, List, ◌++◌, length, map, slice_index_or}
+use Rattle.clause_defs.specs.Clauses.{Has}
 use Rattle.fabric_defs.specs.Numbered.{list_of, joined}
-use Rattle.fabric_defs.specs.Geometries.{pin_count}
-use Rattle.fabric_defs.specs.Configurations.{ConfigValue, table}
+use Rattle.fabric_defs.specs.Configurations.{ConfigValue}
 use Rattle.cell_defs.specs.declared.source.Source.{Source}
-use Rattle.cell_defs.specs.declared.source.Source.TheVariants.{Zero}
-use Rattle.cell_defs.specs.Sources.{tapped_source, track_source, pin_source}
+use Rattle.cell_defs.specs.declared.source.Source.TheVariants.{Zero, Cell}
+use Rattle.cell_defs.specs.Cells.{CellValue}
+use Rattle.cell_defs.specs.Sources.{tapped_source, track_source, cell_of}
 
 -- the sources of the tracks of channel c
-pub record IsChannel (k : ConfigValue) (c : ℕ) (tracks : List Source) : Type 0 where
-  pub count : length tracks ≡ k.geometry.tracks
-  pub each : (t : ℕ) → t < k.geometry.tracks → slice_index_or tracks t Zero ≡ track_source k c t
+pub record IsChannel (config : ConfigValue) (c : ℕ) (tracks : List Source) : Type 0 where
+  pub count : length tracks ≡ config.geometry.tracks
+  pub each : (t : ℕ) → t < config.geometry.tracks → slice_index_or tracks t Zero ≡ track_source config c t
 
 -- where each word listens among the tracks
 abbrev pub tapped_sources : List Source → List ℕ → List Source
 tapped_sources tracks words = map (tapped_source (λ t. slice_index_or tracks t Zero)) words
 
--- the sources of the pins of cell n
-abbrev pub sources_of_cell : ConfigValue → ℕ → List Source
-sources_of_cell k n = list_of (pin_count k.geometry) (pin_source k (n / k.geometry.rows) (n % k.geometry.rows))
+-- the cells of the first columns, and of the first rows of the column after them
+abbrev pub cells_before : ConfigValue → ℕ → ℕ → List CellValue
+cells_before config columns rows =
+    joined columns (λ column. list_of config.geometry.rows (cell_of config column))
+    ++ list_of rows (cell_of config columns)
 
--- and its table
-abbrev pub table_of_cell : ConfigValue → ℕ → ℕ
-table_of_cell k n = table k (n / k.geometry.rows) (n % k.geometry.rows)
+-- the flag of a cell is set; past the last flag none is
+abbrev pub IsMarked : List Bool → ℕ → Type 0
+IsMarked flags k = slice_index_or flags k false ≡ true
 
--- the sources and tables of the first n cells
-pub record ArePassed (k : ConfigValue) (n : ℕ) (pins : List Source) (tables : List ℕ) : Type 0 where
-  pub sources : pins ≡ joined n (sources_of_cell k)
-  pub functions : tables ≡ list_of n (table_of_cell k)
+-- the cells among these sources have numbers below this one
+abbrev pub AreCellsBelow : ℕ → List Source → Type 0
+AreCellsBelow end sources = (k : ℕ) → Has sources (Cell k) → k < end

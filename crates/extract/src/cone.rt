@@ -1,12 +1,17 @@
-ghost use Rattle.std.specs.Prelude.{◌≡◌, ℕ, ◌↔◌, ◌⊎◌, length, IfOk};
-ghost use Rattle.clause_defs.specs.Clauses.{Has};
-ghost use Rattle.fabric_defs.specs.Geometries.{cell_count};
-ghost use Rattle.cell_defs.specs.Cones.{IsCone};
-ghost use Rattle.cell_defs.specs.declared.source.Source.TheVariants.{Cell};
-ghost use Rattle.extract.specs.Flat.{flag, IsMarked, AreCellsBelow};
+//! The cone. Cells listen to lower numbers only, so one pass from the last cell to the first finds all:
+//! when a cell is passed, all cells that may listen to it have been.
 
-use crate::parts::Parts;
+ghost use Rattle.std.specs.Prelude.{◌≡◌, ℕ, ◌<◌, ◌↔◌, ◌⊎◌, Bool, List, length, IfOk};
+ghost use Rattle.clause_defs.specs.Clauses.{Has};
+ghost use Rattle.cell_defs.specs.Cells.{AreCells};
+ghost use Rattle.cell_defs.specs.Cones.{HasCone};
+ghost use Rattle.cell_defs.specs.declared.source.Source.TheVariants.{Cell};
+ghost use Rattle.extract.specs.Kept.{cells_with};
+ghost use Rattle.extract.specs.Walks.{IsMarked, AreCellsBelow};
+
+use crate::cell_list::CellList;
 use cell_defs::Source;
+use fabric::Geometry;
 use std::alloc::{AllocError, Global};
 
 /// Marks the cells among the sources.
@@ -22,19 +27,22 @@ fn mark_cells(cone: &mut Vec<bool>, sources: &[Source])
     }
 }
 
-/// For each cell whether it is in the cone. Cells listen to lower numbers only, so one pass from the
-/// last cell to the first finds all.
-pub(crate) fn cone_of(alloc: Global, parts: &Parts) -> Result<Vec<bool>, AllocError>
-    ensures cells { IfOk result (λ cone. length cone.items ≡ cell_count parts.now.geometry) }
-    ensures cone { IfOk result (λ cone. IsCone parts.now (flag cone.items)) }
+/// For each cell whether it is in the cone.
+pub(crate) fn cone_of(
+    alloc: Global,
+    g: Geometry,
+    cells: &CellList,
+    outputs: &[Source],
+) -> Result<Vec<bool>, AllocError>
+    requires { (cone : List Bool) → AreCells (cells_with g cells.now outputs.now cone) }
+    ensures { IfOk result (λ cone. HasCone (cells_with g cells.now outputs.now cone.items)) }
 {
-    parts.known();
-    let count = parts.count();
-    let mut cone = vec![in alloc; false; count]?;
-    mark_cells(&mut cone, parts.outputs());
+    let count = g.cells();
+    let mut cone = vec![in alloc; false; count as usize]?;
+    mark_cells(&mut cone, outputs);
     for cell in (0..count).rev() {
-        if cone[cell] {
-            mark_cells(&mut cone, parts.pins(cell));
+        if cone[cell as usize] {
+            mark_cells(&mut cone, cells.get(cell).pins);
         }
     }
     Ok(cone)

@@ -1,15 +1,22 @@
-ghost use Rattle.std.specs.Prelude.{◌≡◌, ℕ, ◌+◌, ◌-◌, ◌*◌, ◌^◌, ◌<◌, ◌≤◌, List, length, map, All, slice_index, slice_range};
+//! The bits that a configured fabric computes. The columns are passed from the first to the last; what
+//! is kept between them are the bits of one channel, and the bits of all cells so far.
+//!
+//! Cells are computed by a pass of their own for each kind, which is written once and gets the kind as a
+//! fixed value: so the loop over the pins of a cell has a fixed end.
+
+ghost use Rattle.std.specs.Prelude.{◌≡◌, ℕ, ◌+◌, ◌-◌, ◌*◌, ◌^◌, ◌<◌, ◌≤◌, List, length, map, All, slice_index};
 ghost use Rattle.pch_base.specs.BitLists.{word_of};
-ghost use Rattle.fabric_defs.specs.Geometries.{cell_count, pin_count};
-ghost use Rattle.fabric_defs.specs.Layout.{cell_place};
-ghost use Rattle.fabric_defs.specs.Configurations.{table};
+ghost use Rattle.fabric_defs.specs.Geometries.{cell_count};
+ghost use Rattle.fabric_defs.specs.Configurations.{IsConfig, pin_words, table};
 ghost use Rattle.fabric_defs.specs.Wirings.{Wiring, Wired, FabOut, CellBit, pad_bit, switched_bit, table_bit, pad_bits};
 ghost use Rattle.fabric.specs.BitArrays.{bit_of};
 ghost use Rattle.fabric.specs.Evaluation.{HasChannel, HasCells};
 
 use crate::bit_array::BitArray;
 use crate::config::Config;
+use crate::geometry::Geometry;
 use crate::wires::Wires;
+use fabric_defs::CellKind;
 use pch_base::Bits;
 
 /// The bit that a track of channel 0 takes.
@@ -21,20 +28,20 @@ fn pad_bit(x: Bits, word: u16) -> bool
 }
 
 /// Gives the tracks the bits of channel 0.
-fn put_first_channel(k: &Config, x: Bits, tracks: &mut BitArray)
-    requires { length tracks.old ≡ k.now.geometry.tracks + 1 }
+fn put_first_channel(config: &Config, x: Bits, tracks: &mut BitArray)
+    requires { length tracks.old ≡ config.now.geometry.tracks + 1 }
     ensures places { length tracks.new ≡ length tracks.old }
-    ensures channel { HasChannel k.now x 0 tracks.new }
+    ensures channel { HasChannel config.now x 0 tracks.new }
 {
-    k.known();
-    let words = k.words();
+    let words = config.first_channel();
     tracks.set(0, false);
-    for t in 0..k.geometry().t() as usize {
+    for t in 0..words.len() {
         tracks.set(t + 1, pad_bit(x, words[t]));
     }
 }
 
 /// The number that the bits of the pins spell, pin 0 being the least bit.
+#[inline(always)]
 fn pins_number(pins: &[u16], tracks: &BitArray) -> u32
     requires few { length pins.now < 32 }
     requires within { All (λ word. word < length tracks.now) pins.now }
@@ -51,38 +58,57 @@ fn pins_number(pins: &[u16], tracks: &BitArray) -> u32
 
 /// The bit of the cell at a column and a row, where the tracks have the bits of the channel before the
 /// column.
-fn cell_bit(k: &Config, column: u32, row: u32, tracks: &BitArray) -> bool
-    requires column { column < k.now.geometry.columns }
-    requires row { row < k.now.geometry.rows }
-    requires places { length tracks.now ≡ k.now.geometry.tracks + 1 }
-    ensures { let place = cell_place k.now.geometry column row in
-        let pins = slice_range k.now.words place (place + pin_count k.now.geometry) in
-        bit_of result ≡ table_bit (table k.now column row) (map (slice_index tracks.now) pins) }
+#[inline(always)]
+fn cell_bit(config: &Config, g: Geometry, column: u32, row: u32, tracks: &BitArray) -> bool
+    requires geometry { g ≡ config.now.geometry }
+    requires column { column < config.now.geometry.columns }
+    requires row { row < config.now.geometry.rows }
+    requires places { length tracks.now ≡ config.now.geometry.tracks + 1 }
+    ensures { let pins = map (slice_index tracks.now) (pin_words config.now column row) in
+        bit_of result ≡ table_bit (table config.now column row) pins }
 {
-    k.known();
-    let words = k.words();
-    let g = k.geometry();
-    let place = g.cell_place(column, row);
-    let table_place = place + g.pins() as usize;
-    let number = pins_number(&words[place..table_place], tracks);
-    words[table_place] >> number & 1 == 1
+    let number = pins_number(config.pins_in(g, column, row), tracks);
+    config.table_in(g, column, row) >> number & 1 == 1
 }
 
 /// Gives the cells of a column their bits.
-fn put_cells(k: &Config, column: u32, tracks: &BitArray, cells: &mut BitArray)
-    requires column { column < k.now.geometry.columns }
-    requires tracks { length tracks.now ≡ k.now.geometry.tracks + 1 }
-    requires cells { length cells.old ≡ cell_count k.now.geometry }
+#[inline(always)]
+fn put_cells_in(config: &Config, g: Geometry, column: u32, tracks: &BitArray, cells: &mut BitArray)
+    requires geometry { g ≡ config.now.geometry }
+    requires column { column < config.now.geometry.columns }
+    requires tracks { length tracks.now ≡ config.now.geometry.tracks + 1 }
+    requires cells { length cells.old ≡ cell_count config.now.geometry }
     ensures places { length cells.new ≡ length cells.old }
-    ensures cells { (x : List ℕ) → HasChannel k.now x column tracks.now
-        → HasCells k.now x (column * k.now.geometry.rows) cells.old
-        → HasCells k.now x ((column + 1) * k.now.geometry.rows) cells.new }
+    ensures cells { (x : List ℕ) → HasChannel config.now x column tracks.now
+        → HasCells config.now x (column * config.now.geometry.rows) cells.old
+        → HasCells config.now x ((column + 1) * config.now.geometry.rows) cells.new }
 {
-    k.known();
-    let g = k.geometry();
     let first = column * g.r();
     for row in 0..g.r() {
-        cells.set((first + row) as usize, cell_bit(k, column, row, tracks));
+        cells.set((first + row) as usize, cell_bit(config, g, column, row, tracks));
+    }
+}
+
+/// Gives the cells of a column their bits, by the pass of their kind.
+fn put_cells(config: &Config, column: u32, tracks: &BitArray, cells: &mut BitArray)
+    requires column { column < config.now.geometry.columns }
+    requires tracks { length tracks.now ≡ config.now.geometry.tracks + 1 }
+    requires cells { length cells.old ≡ cell_count config.now.geometry }
+    ensures places { length cells.new ≡ length cells.old }
+    ensures cells { (x : List ℕ) → HasChannel config.now x column tracks.now
+        → HasCells config.now x (column * config.now.geometry.rows) cells.old
+        → HasCells config.now x ((column + 1) * config.now.geometry.rows) cells.new }
+{
+    let g = config.geometry();
+    match g.cell_kind() {
+        CellKind::FourInputs => {
+            let four = g.with_kind(CellKind::FourInputs);
+            put_cells_in(config, four, column, tracks, cells);
+        }
+        CellKind::SixInputs => {
+            let six = g.with_kind(CellKind::SixInputs);
+            put_cells_in(config, six, column, tracks, cells);
+        }
     }
 }
 
@@ -97,70 +123,65 @@ fn switched_bit(word: u16, before: bool, first: u32, cells: &BitArray) -> bool
 }
 
 /// Gives the tracks the bits of the channel after a column in place of the one before it.
-fn switch_tracks(k: &Config, column: u32, cells: &BitArray, tracks: &mut BitArray)
-    requires column { column < k.now.geometry.columns }
-    requires tracks { length tracks.old ≡ k.now.geometry.tracks + 1 }
-    requires cells { length cells.now ≡ cell_count k.now.geometry }
+fn switch_tracks(config: &Config, column: u32, cells: &BitArray, tracks: &mut BitArray)
+    requires column { column < config.now.geometry.columns }
+    requires tracks { length tracks.old ≡ config.now.geometry.tracks + 1 }
+    requires cells { length cells.now ≡ cell_count config.now.geometry }
     ensures places { length tracks.new ≡ length tracks.old }
-    ensures channel { (x : List ℕ) → HasChannel k.now x column tracks.old
-        → HasCells k.now x ((column + 1) * k.now.geometry.rows) cells.now
-        → HasChannel k.now x (column + 1) tracks.new }
+    ensures channel { (x : List ℕ) → HasChannel config.now x column tracks.old
+        → HasCells config.now x ((column + 1) * config.now.geometry.rows) cells.now
+        → HasChannel config.now x (column + 1) tracks.new }
 {
-    k.known();
-    let words = k.words();
-    let g = k.geometry();
-    let first = column * g.r();
-    let place = g.channel_place(column);
-    for t in 0..g.t() as usize {
-        let bit = switched_bit(words[place + t], tracks.get(t + 1), first, cells);
+    let first = column * config.geometry().r();
+    let words = config.channel_after(column);
+    for t in 0..words.len() {
+        let bit = switched_bit(words[t], tracks.get(t + 1), first, cells);
         tracks.set(t + 1, bit);
     }
 }
 
 /// The bits of the output pads, where the tracks have the bits of the last channel.
-fn output_bits(k: &Config, tracks: &BitArray) -> Bits
-    requires { length tracks.now ≡ k.now.geometry.tracks + 1 }
-    ensures { (x : List ℕ) (w : Wiring) → HasChannel k.now x k.now.geometry.columns tracks.now
-        → Wired k.now x w → result ≡ pad_bits k.now w }
+fn output_bits(config: &Config, tracks: &BitArray) -> Bits
+    requires { length tracks.now ≡ config.now.geometry.tracks + 1 }
+    ensures { (x : List ℕ) (w : Wiring) → HasChannel config.now x config.now.geometry.columns tracks.now
+        → Wired config.now x w → result ≡ pad_bits config.now w }
 {
-    k.known();
-    let words = k.words();
-    let g = k.geometry();
-    let place = g.output_place();
-    let mut bits = Bits::new(0, g.o());
-    for pad in 0..g.o() {
-        let word = words[place + pad as usize];
+    let words = config.output_pads();
+    let count = config.geometry().o();
+    let mut bits = Bits::new(0, count);
+    for pad in 0..count {
+        let word = words[pad as usize];
         bits = bits.with(pad, tracks.get(usize::from(word)));
     }
     bits
 }
 
 /// The bits of the output pads; the cells get their bits.
-fn sweep(k: &Config, x: Bits, tracks: &mut BitArray, cells: &mut BitArray) -> Bits
-    requires tracks { length tracks.old ≡ k.now.geometry.tracks + 1 }
-    requires cells { length cells.old ≡ cell_count k.now.geometry }
+fn sweep(config: &Config, x: Bits, tracks: &mut BitArray, cells: &mut BitArray) -> Bits
+    requires tracks { length tracks.old ≡ config.now.geometry.tracks + 1 }
+    requires cells { length cells.old ≡ cell_count config.now.geometry }
+    ensures known { IsConfig config.now }
     ensures tracks { length tracks.new ≡ length tracks.old }
     ensures places { length cells.new ≡ length cells.old }
-    ensures outputs { (w : Wiring) → Wired k.now x w → result ≡ pad_bits k.now w }
-    ensures cells { HasCells k.now x (cell_count k.now.geometry) cells.new }
+    ensures outputs { (w : Wiring) → Wired config.now x w → result ≡ pad_bits config.now w }
+    ensures cells { HasCells config.now x (cell_count config.now.geometry) cells.new }
 {
-    put_first_channel(k, x, tracks);
-    for column in 0..k.geometry().c() {
-        put_cells(k, column, tracks, cells);
-        switch_tracks(k, column, cells, tracks);
+    put_first_channel(config, x, tracks);
+    for column in 0..config.geometry().c() {
+        put_cells(config, column, tracks, cells);
+        switch_tracks(config, column, cells, tracks);
     }
-    output_bits(k, tracks)
+    output_bits(config, tracks)
 }
 
 /// The bits of the output pads where the input pads have the bits `x`, and 0 past them. Takes no
 /// memory. After it, `cell` gives the bits of the cells.
-pub fn eval(k: &Config, x: Bits, w: &mut Wires) -> Bits
-    requires width { length x ≤ k.now.geometry.input_pads }
-    requires wires { w.old.geometry ≡ k.now.geometry }
-    ensures outputs { FabOut k.now x result }
+pub fn eval(config: &Config, x: Bits, w: &mut Wires) -> Bits
+    requires width { length x ≤ config.now.geometry.input_pads }
+    requires wires { w.old.geometry ≡ config.now.geometry }
+    ensures outputs { FabOut config.now x result }
     ensures geometry { w.new.geometry ≡ w.old.geometry }
-    ensures cells { (n : ℕ) → n < cell_count k.now.geometry → CellBit k.now x n (slice_index w.new.cells n) }
+    ensures cells { (n : ℕ) → n < cell_count config.now.geometry → CellBit config.now x n (slice_index w.new.cells n) }
 {
-    k.known();
-    sweep(k, x, &mut w.tracks, &mut w.cells)
+    sweep(config, x, &mut w.tracks, &mut w.cells)
 }

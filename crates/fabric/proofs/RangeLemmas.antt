@@ -2,31 +2,14 @@
 use Rattle.std.proofs.Common.{◌≡◌, ℕ, ◌+◌, ◌-◌, ◌^◌, ◌<◌, ◌≤◌, ⊎_elim, List, [], ◌∷◌, length, suc, get_or, ap, sym, ◌∙◌, arith, subst}
 use Rattle.std.specs.List.{AllZip}
 use Rattle.std.proofs.lemmas.Bool.{cases_lt}
-use Rattle.std.proofs.Math.Nat.{mul_comm}
-use Rattle.std.proofs.lemmas.Nat.{mul-add-lt}
 use Rattle.fabric_defs.specs.Geometries.{GeometryValue, IsGeometry, pin_count}
-use Rattle.fabric_defs.specs.Layout.{cell_words, word_count, column_place, cell_place, channel_place, output_place, limits}
+use Rattle.fabric_defs.specs.Layout.{table_words, word_count, column_place, cell_place, table_place, channel_place, output_place, limits}
 use Rattle.fabric_defs.specs.Configurations.{IsConfig}
 use Rattle.fabric_defs.specs.declared.faults.ConfigError.{ConfigError}
 use Rattle.fabric.specs.Ranges.{AreAtMost, NamesFirstAbove, AreInRange, NamesFirst}
 use Rattle.fabric_defs.specs.declared.limits.TheConstants.{MAX_WORD}
+use Rattle.fabric_laws.proofs.LayoutLemmas.{column_place-more, cell_place-more, cell_place-le, column_place-le, table_place-end}
 use Rattle.fabric_laws.proofs.LimitLemmas.{length-limits, get_or-limits-first, get_or-limits-pin, get_or-limits-table, get_or-limits-track, get_or-limits-output}
-
--- the next column begins after the channel
-pub column_place-more : (g : GeometryValue) (column : ℕ) → column_place g (column + 1) ≡ channel_place g column + g.tracks
-column_place-more g column = grind arith
-
--- the next cell begins after the words of this one
-pub cell_place-more : (g : GeometryValue) (column row : ℕ) → cell_place g column (row + 1) ≡ cell_place g column row + cell_words g
-cell_place-more g column row = grind arith
-
--- the cells of a column stand before the channel after it
-pub cell_within : (g : GeometryValue) (column row : ℕ) → row < g.rows → cell_place g column row + cell_words g ≤ channel_place g column
-cell_within g column row lt = omega (arith, mul-add-lt row (cell_words g) (pin_count g) g.rows lt (omega arith), mul_comm (cell_words g) g.rows)
-
--- a column stands before the output pads
-pub column_within : (g : GeometryValue) (column : ℕ) → column ≤ g.columns → column_place g column ≤ output_place g
-column_within g column le = grind arith
 
 -- one more run of words, whose greatest value is one number
 pub AreInRange-more : (g : GeometryValue) (words : List ℕ) (at count most : ℕ) → AreInRange g words at
@@ -61,21 +44,20 @@ NamesFirst-here g words at count most error before fault same fits =
       },
     )
 
--- one more cell
+-- one more cell: its pins are in their ranges, and its table may be any words
 pub AreInRange-cell : (g : GeometryValue) (words : List ℕ) (column row : ℕ) → column < g.columns → row < g.rows
     → AreInRange g words (cell_place g column row)
     → AreAtMost g.tracks words (cell_place g column row) (cell_place g column row + pin_count g)
     → ((i : ℕ) → get_or words i 0 < 2 ^ 16)
     → AreInRange g words (cell_place g column (row + 1))
 AreInRange-cell g words column row c_lt r_lt before pins short =
-    let at : ℕ = cell_place g column row in
-    let with_pins : AreInRange g words (at + pin_count g) =
-    AreInRange-more g words at (pin_count g) g.tracks before pins (λ i lt. get_or-limits-pin g column row i c_lt r_lt lt) in
-    let with_table : AreInRange g words (at + pin_count g + 1) =
-    AreInRange-more g words (at + pin_count g) 1 MAX_WORD with_pins (λ i from to. omega (arith, short i))
-    (λ i lt. let e : at + pin_count g + i ≡ at + pin_count g = omega arith in
-    ap (λ m. get_or (limits g) m 0) e ∙ get_or-limits-table g column row c_lt r_lt) in
-    λ i lt. with_table i (omega (arith, cell_place-more g column row))
+    let with_pins : AreInRange g words (table_place g column row) =
+    AreInRange-more g words (cell_place g column row) (pin_count g) g.tracks before pins
+    (λ i lt. get_or-limits-pin g column row i c_lt r_lt lt) in
+    let with_table : AreInRange g words (table_place g column row + table_words g) =
+    AreInRange-more g words (table_place g column row) (table_words g) MAX_WORD with_pins
+    (λ i from to. omega (arith, short i)) (λ j lt. get_or-limits-table g column row j c_lt r_lt lt) in
+    λ i lt. with_table i (omega (arith, cell_place-more g column row, table_place-end g column row))
 
 -- the channel after the cells of a column
 pub AreInRange-channel : (g : GeometryValue) (words : List ℕ) (column row : ℕ) → column < g.columns → row ≡ g.rows
@@ -122,7 +104,7 @@ pub NamesFirst-pin : (g : GeometryValue) (words : List ℕ) (column row : ℕ) (
 NamesFirst-pin g words column row error c_lt r_lt before fault =
     NamesFirst-here g words (cell_place g column row) (pin_count g) g.tracks error before fault
     (λ i lt. get_or-limits-pin g column row i c_lt r_lt lt)
-    (omega (arith, cell_within g column row r_lt, column_place-more g column, column_within g (column + 1) (omega arith)))
+    (omega (arith, cell_place-le g column row r_lt, column_place-more g column, column_place-le g (column + 1) (omega arith)))
 
 -- the fault of the channel after a column
 pub NamesFirst-track : (g : GeometryValue) (words : List ℕ) (column row : ℕ) (error : ConfigError) → column < g.columns → row ≡ g.rows
@@ -132,7 +114,7 @@ NamesFirst-track g words column row error c_lt all before fault =
     let P : ℕ → Type 0 = λ r. AreInRange g words (cell_place g column r) in
     NamesFirst-here g words (channel_place g column) g.tracks (g.rows + 1) error (subst P all before) fault
     (λ i lt. get_or-limits-track g column i c_lt lt)
-    (omega (arith, column_place-more g column, column_within g (column + 1) (omega arith)))
+    (omega (arith, column_place-more g column, column_place-le g (column + 1) (omega arith)))
 
 -- the fault of the output pads
 pub NamesFirst-output : (g : GeometryValue) (words : List ℕ) (column : ℕ) (error : ConfigError) → column ≡ g.columns

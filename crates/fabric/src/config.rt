@@ -130,8 +130,7 @@ impl Config {
         ensures count { length result.now ≡ self.now.geometry.output_pads }
         ensures within { All (λ word. word ≤ self.now.geometry.tracks) result.now }
     {
-        let place = self.geometry.output_place();
-        &self.words[place..place + self.geometry.o() as usize]
+        &self.words[self.geometry.output_place()..]
     }
 
     /// As `pins`, for a caller that knows the geometry: where it is made with a fixed kind, places are

@@ -1,6 +1,6 @@
 -- The cells that matter to the output pads: the least set that has the cells to which output pads listen and
 -- the cells to which the pins of its members listen.
-use Rattle.std.specs.Prelude.{◌≡◌, ℕ, ◌<◌, Bool, true, false, length, slice_index_or}
+use Rattle.std.specs.Prelude.{◌≡◌, ℕ, ◌<◌, Bool, true, false, List, length, slice_index_or}
 use Rattle.clause_defs.specs.Clauses.{Has}
 use Rattle.fabric_defs.specs.Geometries.{cell_count}
 use Rattle.cell_defs.specs.declared.source.Source.TheVariants.{Cell}
@@ -9,6 +9,10 @@ use Rattle.cell_defs.specs.Cells.{CellsValue, cell_at}
 -- whether cell k is in the cone
 abbrev pub in_cone : CellsValue → ℕ → Bool
 in_cone cells k = slice_index_or cells.cone k false
+
+-- the same cells, with another cone
+abbrev pub with_cone : CellsValue → List Bool → CellsValue
+with_cone cells cone = record cells { cone = cone }
 
 -- a set of cells, told by a test, that has all to which the output pads and its members listen
 pub record IsClosed (cells : CellsValue) (set : ℕ → Bool) : Type 0 where

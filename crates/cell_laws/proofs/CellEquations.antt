@@ -1,12 +1,12 @@
 -- The equations of cells have one solution, since cells listen to lower numbers only.
-use Rattle.std.proofs.Common.{◌≡◌, ℕ, zero, suc, ◌<◌, List, [], ◌∷◌, ◌++◌, length, map, get_or, refl, ap, subst, sym, ◌∙◌, ⊎_elim, arith}
+use Rattle.std.proofs.Common.{◌≡◌, ℕ, zero, suc, ◌<◌, List, [], ◌∷◌, ◌++◌, length, get_or, refl, ap, subst, sym, ◌∙◌, ⊎_elim, arith}
 use Rattle.std.proofs.lemmas.List.{get_or_append_left, get_or_push, length_push, ext_get_or}
 use Rattle.std.proofs.lemmas.Bool.{cases_lt}
 use Rattle.clause_defs.specs.Clauses.{Has}
 use Rattle.fabric_defs.specs.Wirings.{table_bit}
 use Rattle.cell_defs.specs.declared.source.Source.TheVariants.{Cell}
 use Rattle.cell_defs.specs.Cells.{CellsValue, cell_at, IsSourceBelow, AreCells}
-use Rattle.cell_defs.specs.Evaluation.{source_bit, IsCellBit, CellBits}
+use Rattle.cell_defs.specs.Evaluation.{source_bits, chosen_bit, IsCellBit, CellBits}
 use Rattle.cell_laws.proofs.SourceBits.{All-Has, source_bits-same}
 
 -- a set of cells that has those to which its members listen
@@ -16,7 +16,7 @@ IsClosedUnder l P = (m k : ℕ) → m < length l.cells → P m → Has (cell_at 
 -- cells listen to lower numbers
 pub listens_below : (l : CellsValue) (m k : ℕ) → AreCells l → m < length l.cells → Has (cell_at l m).pins (Cell k) → k < m
 listens_below l m k h lt has =
-    All-Has (IsSourceBelow l.geometry m) (cell_at l m).pins (Cell k) (h.cells m (omega (arith, h.count))).sources has
+    All-Has (IsSourceBelow l.geometry.input_pads m) (cell_at l m).pins (Cell k) (h.each m (omega (arith, h.count))).sources has
 
 -- lists of bits that obey the equations of such a set agree in it
 pub equations-agree : (l : CellsValue) (x a b : List ℕ) (P : ℕ → Type 0) → AreCells l → IsClosedUnder l P
@@ -44,7 +44,7 @@ bits-unique l x a b h p q =
 bits_below : CellsValue → List ℕ → ℕ → List ℕ
 bits_below l x zero = []
 bits_below l x (suc n) =
-    bits_below l x n ++ table_bit (cell_at l n).table (map (source_bit x (bits_below l x n)) (cell_at l n).pins) ∷ []
+    bits_below l x n ++ chosen_bit x (bits_below l x n) (cell_at l n) ∷ []
 
 -- there are n of them
 length-bits_below : (l : CellsValue) (x : List ℕ) (n : ℕ) → length (bits_below l x n) ≡ n
@@ -59,14 +59,14 @@ bits_below-more l x n k lt = get_or_append_left (bits_below l x n) _ 0 k (omega 
 
 -- and so none of the sources before it
 pins-more : (l : CellsValue) (x : List ℕ) (n k : ℕ) → AreCells l → k < length l.cells → k < suc n
-    → map (source_bit x (bits_below l x n)) (cell_at l k).pins ≡ map (source_bit x (bits_below l x (suc n))) (cell_at l k).pins
+    → source_bits x (bits_below l x n) (cell_at l k).pins ≡ source_bits x (bits_below l x (suc n)) (cell_at l k).pins
 pins-more l x n k h lt le =
     source_bits-same x (bits_below l x n) (bits_below l x (suc n)) (cell_at l k).pins
     (λ j has. let lower : j < k = listens_below l k j h lt has in sym (bits_below-more l x n j (omega arith)))
 
 -- the bit of the last of them
 last_bit : (l : CellsValue) (x : List ℕ) (n : ℕ)
-    → get_or (bits_below l x (suc n)) n 0 ≡ table_bit (cell_at l n).table (map (source_bit x (bits_below l x n)) (cell_at l n).pins)
+    → get_or (bits_below l x (suc n)) n 0 ≡ chosen_bit x (bits_below l x n) (cell_at l n)
 unfolding bits_below
 last_bit l x n = get_or_push (bits_below l x n) _ 0 n (length-bits_below l x n)
 

@@ -4,3 +4,7 @@ pub mod CellEquations
 pub mod SourceRanges
 pub mod WiredSources
 pub mod CellsLemmas
+pub mod CellsUniqueness
+pub mod ConeLemmas
+pub mod ConeExistence
+pub mod CellsExistence

@@ -1,15 +1,8 @@
--- Places of cells, and members of numbered lists.
-use Rattle.std.proofs.Common.{◌≡◌, ℕ, zero, suc, ◌+◌, ◌*◌, ◌/◌, ◌%◌, ◌<◌, [], ◌∷◌, ◌++◌, map, refl, ap, subst, ◌∙◌, ⊎_elim, arith}
+-- Cells by their columns and rows.
+use Rattle.std.proofs.Common.{◌≡◌, ℕ, ◌+◌, ◌*◌, ◌/◌, ◌%◌, ◌<◌, ap, subst, ⊎_elim, arith}
 use Rattle.std.proofs.lemmas.Nat.{div-add-mod', div_below, mod_below}
-use Rattle.std.proofs.lemmas.List.{map_push}
 use Rattle.std.proofs.lemmas.Bool.{cases_lt}
-use Rattle.fabric_defs.specs.Numbered.{list_of}
 use Rattle.fabric_defs.specs.Geometries.{GeometryValue, cell_count, cell_number}
-
--- a function of the elements of a numbered list
-pub map-list_of : {X Y : Type 0} (f : X → Y) (n : ℕ) (g : ℕ → X) → map f (list_of n g) ≡ list_of n (λ i. f (g i))
-map-list_of f zero g = refl
-map-list_of f (suc n) g = map_push f (list_of n g) (g n) ∙ ap (λ l. l ++ f (g n) ∷ []) (map-list_of f n g)
 
 -- what holds of the cell in each row of each column holds of each cell
 pub by_place : (g : GeometryValue) (P : ℕ → Type 0)

@@ -2,15 +2,15 @@
 use Rattle.std.proofs.Common.{◌≡◌, ℕ, zero, suc, ◌<◌, ◌≤◌, List, map, get_or, refl, ap, sym, ◌∙◌, arith, add-one}
 use Rattle.fabric_defs.specs.Numbered.{list_of}
 use Rattle.fabric_defs.specs.Geometries.{GeometryValue, pin_count, cell_count, cell_number}
-use Rattle.fabric_defs.specs.Configurations.{ConfigValue, first_word, pin_word, track_word, output_word}
+use Rattle.fabric_defs.specs.Configurations.{ConfigValue, first_word, pin_word, table, track_word, output_word}
 use Rattle.fabric_defs.specs.Wirings.{Wiring, Wired, channel, cell_pins, pad_bit, tapped_bit, switched_bit, table_bit, pad_bits}
-use Rattle.fabric_laws.proofs.NumberedLemmas.{list_of-agree, list_of-get_or}
+use Rattle.fabric_laws.specs.Ranges.{HasRanges}
+use Rattle.fabric_laws.proofs.NumberedLemmas.{list_of-agree, list_of-get_or, map-list_of}
 use Rattle.cell_defs.specs.declared.source.Source.{Source}
-use Rattle.cell_defs.specs.Cells.{CellsValue, cell_at}
+use Rattle.cell_defs.specs.Cells.{CellsValue}
 use Rattle.cell_defs.specs.Sources.{AreSourcesOf, pad_source, tapped_source, switched_source, track_source, pin_source, output_source}
-use Rattle.cell_defs.specs.Evaluation.{source_bit, IsCellBit, CellBits, output_bits}
-use Rattle.cell_laws.proofs.Places.{map-list_of, by_place}
-use Rattle.cell_laws.proofs.SourceRanges.{HasRanges}
+use Rattle.cell_defs.specs.Evaluation.{source_bit, source_bits, chosen_bit, IsCellBit, CellBits, output_bits}
+use Rattle.cell_laws.proofs.Places.{by_place}
 
 -- the bit of a track of channel 0 is that of its source
 pad_bit-source : (x a : List ℕ) (word : ℕ) → pad_bit x word ≡ source_bit x a (pad_source word)
@@ -44,7 +44,7 @@ tapped_bit-source k x w h c (suc t) le within = channel-source k x w h c t le (o
 cell_pins-source : (k : ConfigValue) (x : List ℕ) (w : Wiring) → HasRanges k → Wired k x w → (column row : ℕ)
     → column < k.geometry.columns → row < k.geometry.rows → cell_number k.geometry column row < cell_count k.geometry
     → cell_pins w (cell_number k.geometry column row)
-    ≡ map (source_bit x w.cells) (list_of (pin_count k.geometry) (pin_source k column row))
+    ≡ source_bits x w.cells (list_of (pin_count k.geometry) (pin_source k column row))
 cell_pins-source k x w ranges h column row lt less within =
     sym (list_of-get_or (pin_count k.geometry) (cell_pins w (cell_number k.geometry column row)) 0
     (h.shape.pins (cell_number k.geometry column row) within))
@@ -58,12 +58,9 @@ wired_bit : (k : ConfigValue) (l : CellsValue) (x : List ℕ) (w : Wiring) → H
     → (column row : ℕ) → column < k.geometry.columns → row < k.geometry.rows
     → cell_number k.geometry column row < cell_count k.geometry → IsCellBit l x w.cells (cell_number k.geometry column row)
 wired_bit k l x w ranges of h column row lt less within =
-    let n = cell_number k.geometry column row in
     h.cells column row lt less
-    ∙ ap (λ bits. table_bit bits (cell_pins w n)) (sym (of.tables column row lt less))
-    ∙ ap (table_bit (cell_at l n).table)
-    (cell_pins-source k x w ranges h column row lt less within
-    ∙ ap (map (source_bit x w.cells)) (sym (of.pins column row lt less)))
+    ∙ ap (table_bit (table k column row)) (cell_pins-source k x w ranges h column row lt less within)
+    ∙ ap (chosen_bit x w.cells) (sym (of.each column row lt less))
 
 -- the cells of a wiring obey the equations of all cells
 pub wired_bits : (k : ConfigValue) (l : CellsValue) (x : List ℕ) (w : Wiring) → HasRanges k → AreSourcesOf k l → Wired k x w
@@ -77,7 +74,7 @@ wired_bits k l x w ranges of h = record {
 pub pad_bits-source : (k : ConfigValue) (l : CellsValue) (x : List ℕ) (w : Wiring) → HasRanges k → AreSourcesOf k l → Wired k x w
     → output_bits l x w.cells ≡ pad_bits k w
 pad_bits-source k l x w ranges of h =
-    ap (map (source_bit x w.cells)) of.outputs
+    ap (source_bits x w.cells) of.outputs
     ∙ map-list_of (source_bit x w.cells) k.geometry.output_pads (output_source k)
     ∙ list_of-agree k.geometry.output_pads _ _
     (λ pad lt. sym (tapped_bit-source k x w h k.geometry.columns (output_word k pad) (omega arith) (ranges.output_words pad lt)))

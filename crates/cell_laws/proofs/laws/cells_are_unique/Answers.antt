@@ -1,4 +1,4 @@
-use Rattle.cell_laws.proofs.CellsLemmas.{cells-unique}
+use Rattle.cell_laws.proofs.CellsUniqueness.{cells-unique}
 use Rattle.cell_laws.proofs.laws.cells_are_unique.Goals as goal
 
 pub returns : goal.returns

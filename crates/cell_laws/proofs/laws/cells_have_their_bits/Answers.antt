@@ -1,4 +1,4 @@
-use Rattle.cell_laws.proofs.CellsLemmas.{some_wiring, cone-outputs, cells-wired}
+use Rattle.cell_laws.proofs.CellsLemmas.{some_wiring, cells-outputs, cells-wired}
 use Rattle.cell_laws.proofs.laws.cells_have_their_bits.Goals as goal
 
 pub returns-clause-cells : goal.returns-clause-cells
@@ -7,4 +7,4 @@ returns-clause-cells c k l x a h of bits n lt =
 
 pub returns-clause-outputs : goal.returns-clause-outputs
 returns-clause-outputs c k l x a h of bits =
-    let w = some_wiring k x h in (w.0, w.1, cone-outputs k l x a w.0 h of w.1 (λ n lt _. bits.each n lt))
+    let w = some_wiring k x h in (w.0, w.1, cells-outputs k l x a w.0 h of w.1 bits)

@@ -2,4 +2,4 @@ use Rattle.cell_laws.proofs.CellsLemmas.{cells_of_config}
 use Rattle.cell_laws.proofs.laws.sources_are_cells.Goals as goal
 
 pub returns : goal.returns
-returns c k l h of = cells_of_config k l h of.sources
+returns c = cells_of_config

@@ -3,12 +3,12 @@
 use Rattle.std.proofs.Common.{◌≡◌, ℕ, zero, suc, ◌+◌, ◌<◌, ◌≤◌, ◌⊎◌, inl, inr, Bool, true, false, List, [], ◌∷◌, length, refl, subst, arith}
 use Rattle.std.proofs.lemmas.Bool.{cases_eq, cases_order}
 use Rattle.clause_defs.specs.Clauses.{Has}
-use Rattle.fabric_defs.specs.Geometries.{cell_count}
 use Rattle.cell_defs.specs.declared.source.Source.{Source}
 use Rattle.cell_defs.specs.declared.source.Source.TheVariants.{Zero, Pad, Cell}
-use Rattle.cell_defs.specs.Cells.{CellsValue, cell_at, IsSourceBelow, AreCells}
+use Rattle.cell_defs.specs.Cells.{CellsValue, cell_at, AreCells}
 use Rattle.cell_defs.specs.Cones.{IsClosed, IsCone}
-use Rattle.cell_laws.proofs.SourceBits.{All-Has}
+use Rattle.cell_laws.proofs.CellEquations.{listens_below}
+use Rattle.cell_laws.proofs.CellsLemmas.{output_cell-lt}
 
 -- the source is this cell or not
 is_cell_cases : (s : Source) (k : ℕ) → (s ≡ Cell k) ⊎ (s ≡ Cell k → ⊥)
@@ -87,24 +87,13 @@ yes_only : {P : Type 0} (answer : P ⊎ (P → ⊥)) → is_yes answer ≡ true 
 yes_only (inl h) e = h
 yes_only (inr h) e = absurd cc
 
--- output pads listen to cells
-pub output_cell-lt : (l : CellsValue) (k : ℕ) → AreCells l → Has l.outputs (Cell k) → k < length l.cells
-output_cell-lt l k cells has =
-    let within : k < cell_count l.geometry = All-Has (IsSourceBelow l.geometry (cell_count l.geometry)) l.outputs (Cell k) cells.outputs has in
-    omega (arith, cells.count)
-
--- cells listen to lower numbers
-pub pin_cell-lt : (l : CellsValue) (m k : ℕ) → AreCells l → m < length l.cells → Has (cell_at l m).pins (Cell k) → k < m
-pin_cell-lt l m k cells lt has =
-    All-Has (IsSourceBelow l.geometry m) (cell_at l m).pins (Cell k) (cells.cells m (omega (arith, cells.count))).sources has
-
 -- a cell with few cells above it is reached in few steps, if at all
 few_steps : (l : CellsValue) (steps k : ℕ) → AreCells l → length l.cells ≤ k + steps → Reached l (suc steps) k → Reached l steps k
 few_steps l zero k cells le (inl has) = absurd (let lt = output_cell-lt l k cells has in omega arith)
 few_steps l zero k cells le (inr found) = found.2.0
 few_steps l (suc steps) k cells le (inl has) = inl has
 few_steps l (suc steps) k cells le (inr found) =
-    let lt : k < found.0 = pin_cell-lt l found.0 k cells found.1 found.2.1 in
+    let lt : k < found.0 = listens_below l found.0 k cells found.1 found.2.1 in
     inr (found.0, found.1, (few_steps l steps found.0 cells (omega arith) found.2.0, found.2.1))
 
 -- what is reached is in each closed set

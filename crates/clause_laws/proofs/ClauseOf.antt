@@ -14,7 +14,8 @@ sign_same v w false false e = (omega arith, refl)
 sign_same v w true false e = absurd (omega arith)
 sign_same v w false true e = absurd (omega arith)
 
-same_code : (l m : Literal) → code l ≡ code m → l ≡ m
+-- a literal is known by its number
+pub same_code : (l m : Literal) → code l ≡ code m → l ≡ m
 same_code l m e = let p = sign_same l.variable m.variable l.positive m.positive e in by_parts l m p.0 p.1
 
 -- ---- where the new literal goes

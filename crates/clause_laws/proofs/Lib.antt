@@ -1,6 +1,12 @@
 pub mod LiteralLemmas
 pub mod ClauseLemmas
-pub mod Soundness
 pub mod Uniqueness
 pub mod ClauseOf
 pub mod TraceLemmas
+pub mod ClauseTests
+pub mod Resolvents
+pub mod TraceLits
+pub mod Soundness
+pub mod ChainEnd
+pub mod Verdict
+pub mod CompactTraces

@@ -1,13 +1,17 @@
 -- What follows by the chain rule is true wherever the antecedents are.
-use Rattle.std.proofs.Common.{◌≡◌, ◌≢◌, ℕ, zero, suc, ◌+◌, ◌-◌, ◌<◌, inl, inr, List, [], ◌∷◌, length, map, None, Result, Ok, Err, refl, subst, arith}
+use Rattle.std.proofs.Common.{◌≡◌, ◌≢◌, ℕ, zero, suc, ◌+◌, ◌-◌, ◌<◌, inl, inr, List, [], ◌∷◌, length, Option, Some, None, Result, Ok, Err, refl, sym, ◌∙◌, ap, subst, arith}
 use Rattle.clause_defs.specs.Literals.{negation}
-use Rattle.clause_defs.specs.Clauses.{Lits, Has, SameSet, HasClause, IsTrueUnder, Satisfies, Unsat}
+use Rattle.clause_defs.specs.Clauses.{Lits, Has, SameSet, HasClause, IsTrueUnder, Satisfies, Unsat, clause_of}
 use Rattle.clause_defs.specs.Resolution.{Step, Chain, Resolves}
-use Rattle.clause_defs.specs.Traces.{Entry, lits_at, antecedents_at, AntecedentsAreEarlier}
-use Rattle.clause_defs.specs.Verdicts.{ChainEnds, ChainFault, fault_of, FaultWith, AllRightBefore, EndsEmpty}
+use Rattle.clause_defs.specs.Traces.{Entry, stated_at, lits_at, antecedents_at, index_at, literals_in, AntecedentsAreEarlier}
+use Rattle.clause_defs.specs.TraceClauses.{LitsOf, antecedent_lits, given_by, computed_before}
+use Rattle.clause_defs.specs.Verdicts.{EndsAt, ChainEnds, ChainFault, fault_of, compact_fault_of, derived_fault_of, DerivedFault, FaultWith, ClauseFault, AllRightBefore, EndsEmpty}
 use Rattle.clause_defs.specs.declared.verdict.ChainError.{ChainError}
 use Rattle.clause_laws.proofs.LiteralLemmas.{literal_cases, not_both}
-use Rattle.clause_laws.proofs.ClauseLemmas.{Has-map}
+use Rattle.clause_laws.proofs.ClauseLemmas.{same_refl, same_sym}
+use Rattle.clause_laws.proofs.ClauseOf.{IsOrdered-clause_of, SameSet-clause_of}
+use Rattle.clause_laws.proofs.Resolvents.{resolves_same, resolves-chain_of}
+use Rattle.clause_laws.proofs.TraceLits.{lits_stated, lits_given, given_all}
 
 -- truth is that of the set
 satisfies_same : (a : List ℕ) (c d : Lits) → SameSet c d → Satisfies a c → Satisfies a d
@@ -33,62 +37,127 @@ resolves_keeps : (a : List ℕ) (cs : List Lits) (s : Lits) → Resolves cs s
 resolves_keeps a [] s h all = absurd h
 resolves_keeps a (r ∷ cs) s h all = chain_keeps a r cs s h (all r (inl refl)) (λ c i. all c (inr i))
 
--- a chain that ends well is one of the rule
-chain_from_end : (index : ℕ) (stated : Lits) (step : ℕ) (r : Lits) (cs : List Lits)
-    → ChainEnds index stated step r cs (Ok tt) → Chain r cs stated
-chain_from_end index stated step r [] (inl h) = h.0
-chain_from_end index stated step r [] (inr h) = absurd (let e = h.1 in cc)
+-- ---- a clause without a fault
+
+-- a chain without a faulty step comes to a clause, which is the stated one if there is one
+abbrev ComesTo : Option Lits → Lits → Type 0
+ComesTo None s = Unit {0}
+ComesTo (Some stated) s = SameSet s stated
+
+at_end : (index : ℕ) (stated : Option Lits) (r : Lits) → EndsAt index stated r (Ok tt) → ComesTo stated r
+at_end index None r h = tt
+at_end index (Some stated) r (inl h) = h.0
+at_end index (Some stated) r (inr h) = absurd (let e = h.1 in cc)
+
+chain_from_end : (index : ℕ) (stated : Option Lits) (step : ℕ) (r : Lits) (cs : List Lits)
+    → ChainEnds index stated step r cs (Ok tt) → (s : Lits) × Chain r cs s × ComesTo stated s
+chain_from_end index stated step r [] h = (r, same_refl r, at_end index stated r h)
 chain_from_end index stated step r (c ∷ cs) (inl h) = absurd (let e = h.1 in cc)
 chain_from_end index stated step r (c ∷ cs) (inr (inl h)) = absurd (let e = h.1 in cc)
-chain_from_end index stated step r (c ∷ cs) (inr (inr h)) = (h.0, h.1, chain_from_end index stated (step + 1) h.0 cs h.2)
+chain_from_end index stated step r (c ∷ cs) (inr (inr h)) =
+    let rest = chain_from_end index stated (step + 1) h.0 cs h.2 in (rest.0, (h.0, h.1, rest.1), rest.2)
 
-no_fault : (end : Result (Unit {0}) ChainError) → None ≡ fault_of end → end ≡ Ok tt
-no_fault (Ok tt) e = refl
-no_fault (Err x) e = cc
+resolves_from_end : (index : ℕ) (stated : Option Lits) (cs : List Lits)
+    → ChainFault index stated cs (Ok tt) → (s : Lits) × Resolves cs s × ComesTo stated s
+resolves_from_end index stated [] h = absurd h
+resolves_from_end index stated (r ∷ cs) h = chain_from_end index stated 1 r cs h
 
-resolves_from_end : (index : ℕ) (stated : Lits) (cs : List Lits) (end : Result (Unit {0}) ChainError)
-    → ChainFault index stated cs end → end ≡ Ok tt → Resolves cs stated
-resolves_from_end index stated [] end h e = absurd h
-resolves_from_end index stated (r ∷ cs) end h e =
-    chain_from_end index stated 1 r cs (subst (ChainEnds index stated 1 r cs) e h)
+no_stated_fault : (end : Result (Unit {0}) ChainError) → None ≡ fault_of end → end ≡ Ok tt
+no_stated_fault (Ok tt) e = refl
+no_stated_fault (Err x) e = absurd cc
 
--- a faultless clause with antecedents follows from them
-pub resolves_with : (f : List Lits) (t : List Entry) (k : ℕ) (ps : List ℕ)
-    → FaultWith f t k ps None → ps ≢ [] → Resolves (map (lits_at t) ps) (lits_at t k)
-resolves_with f t k [] h ne = absurd (ne refl)
-resolves_with f t k (p ∷ ps) h ne =
-    resolves_from_end _ (lits_at t k) (map (lits_at t) (p ∷ ps)) h.0 h.1 (no_fault h.0 h.2)
+no_compact_fault : (index literals w : ℕ) (end : Result (Unit {0}) ChainError) → None ≡ compact_fault_of index literals w end → end ≡ Ok tt
+no_compact_fault index literals w (Ok tt) e = refl
+no_compact_fault index literals w (Err x) e = absurd cc
 
--- a faultless clause without antecedents is in the list
-pub original_with : (f : List Lits) (t : List Entry) (k : ℕ) (ps : List ℕ)
-    → FaultWith f t k ps None → ps ≡ [] → HasClause f (lits_at t k)
-original_with f t k [] (inl h) e = h.0
-original_with f t k [] (inr h) e = absurd (let n = h.1 in cc)
-original_with f t k (p ∷ ps) h e = absurd cc
+-- a clause without a fault has a chain that ends well
+pub no_fault : (t : List Entry) (w k : ℕ) (stated : Option Lits) (end : Result (Unit {0}) ChainError)
+    → None ≡ derived_fault_of t w k stated end → end ≡ Ok tt
+no_fault t w k None end e = no_compact_fault (index_at t k) (computed_before t (k + 1)) w end e
+no_fault t w k (Some stated) end e = no_stated_fault end e
 
--- a faultless clause is true wherever the list and its antecedents are
-faultless_keeps : (f : List Lits) (t : List Entry) (k : ℕ) (a : List ℕ) (ps : List ℕ)
-    → ((c : Lits) → Has f c → Satisfies a c) → FaultWith f t k ps None
-    → ((p : ℕ) → Has ps p → Satisfies a (lits_at t p)) → Satisfies a (lits_at t k)
-faultless_keeps f t k a [] all h earlier =
-    let original : HasClause f (lits_at t k) = original_with f t k [] h refl in
-    satisfies_same a original.0 (lits_at t k) original.2 (all original.0 original.1)
-faultless_keeps f t k a (p ∷ ps) all h earlier =
-    resolves_keeps a (map (lits_at t) (p ∷ ps)) (lits_at t k) (resolves_with f t k (p ∷ ps) h (λ e. cc))
-    (λ c i. let from = Has-map (lits_at t) (p ∷ ps) c i in subst (Satisfies a) from.2 (earlier from.0 from.1))
+-- a chain of given clauses that ends well
+pub derived_end : (t : List Entry) (w k : ℕ) (o : Option (List Lits)) (cs : List Lits) → o ≡ Some cs
+    → DerivedFault t w k o None → ChainFault (index_at t k) (stated_at t k) cs (Ok tt)
+derived_end t w k None cs e h = absurd cc
+derived_end t w k (Some ds) cs e h =
+    let same : ds ≡ cs = cc in
+    subst (λ bs. ChainFault (index_at t k) (stated_at t k) bs (Ok tt)) same
+    (subst (ChainFault (index_at t k) (stated_at t k) ds) (no_fault t w k (stated_at t k) h.0 h.2) h.1)
 
--- so each clause of a faultless trace is true wherever the list is
-all_true : (f : List Lits) (t : List Entry) (a : List ℕ) → ((c : Lits) → Has f c → Satisfies a c)
-    → AntecedentsAreEarlier t → AllRightBefore f t (length t)
-    → (n k : ℕ) → k < n → k < length t → Satisfies a (lits_at t k)
-all_true f t a all earlier right zero k below within = absurd (omega arith)
-all_true f t a all earlier right (suc n) k below within =
-    faultless_keeps f t k a (antecedents_at t k) all (right k within)
-    (λ p i. let before : p < k = earlier k p i in all_true f t a all earlier right n p (omega arith) (omega arith))
+pub derived_with : (f : List Lits) (t : List Entry) (w k : ℕ) (ps : List ℕ) (cs : List Lits) → ps ≢ [] → antecedent_lits t k ≡ Some cs
+    → FaultWith f t w k ps None → ChainFault (index_at t k) (stated_at t k) cs (Ok tt)
+derived_with f t w k [] cs ne e h = absurd (ne refl)
+derived_with f t w k (p ∷ ps) cs ne e h = derived_end t w k (antecedent_lits t k) cs e h
 
-pub unsat : (variables : ℕ) (f : List Lits) (t : List Entry) → AntecedentsAreEarlier t
-    → AllRightBefore f t (length t) → EndsEmpty t → Unsat variables f
-unsat variables f t earlier right ends a assignment all =
+-- its clause is the stated one, or the one that the chain comes to
+lits_from_end : (t : List Entry) (k : ℕ) (cs : List Lits) (stated : Option Lits) → stated_at t k ≡ stated → AntecedentsAreEarlier t
+    → antecedent_lits t k ≡ Some cs → ((s : Lits) × Resolves cs s × ComesTo stated s) → (c : Lits) × (LitsOf t k ≡ Some c) × Resolves cs c
+lits_from_end t k cs (Some c) e earlier given h = (c, lits_stated t k c e, resolves_same cs h.0 c h.2 h.1)
+lits_from_end t k cs None e earlier given h =
+    let s = clause_of h.0 in
+    let chain = resolves_same cs h.0 s (same_sym s h.0 (SameSet-clause_of h.0)) h.1 in (
+      s,
+      lits_given t k earlier e ∙ ap given_by given ∙ resolves-chain_of cs s chain (IsOrdered-clause_of h.0),
+      chain,
+    )
+
+-- a clause with antecedents that has no fault follows from them
+pub resolves_with : (f : List Lits) (t : List Entry) (w k : ℕ) (cs : List Lits) → AntecedentsAreEarlier t
+    → ClauseFault f t w k None → antecedents_at t k ≢ [] → antecedent_lits t k ≡ Some cs
+    → (c : Lits) × (LitsOf t k ≡ Some c) × Resolves cs c
+resolves_with f t w k cs earlier right ne given =
+    lits_from_end t k cs (stated_at t k) refl earlier given
+    (resolves_from_end (index_at t k) (stated_at t k) cs (derived_with f t w k (antecedents_at t k) cs ne given right))
+
+-- a clause without antecedents that has no fault is in the list
+pub original_with : (f : List Lits) (t : List Entry) (w k : ℕ) (ps : List ℕ)
+    → FaultWith f t w k ps None → ps ≡ [] → HasClause f (lits_at t k)
+original_with f t w k [] (inl h) e = h.0
+original_with f t w k [] (inr h) e = absurd (let n = h.1 in cc)
+original_with f t w k (p ∷ ps) h e = absurd cc
+
+-- ---- a trace without a fault
+
+module _ (f : List Lits) (t : List Entry) (w : ℕ) (earlier : AntecedentsAreEarlier t) where
+  -- clause k is there, and it has this property
+  abbrev Keeps : (Lits → Type 0) → ℕ → Type 0
+  Keeps P k = (c : Lits) × (LitsOf t k ≡ Some c) × P c
+
+  -- a property that steps keep and that originals have, all clauses of a faultless trace have
+  module _ (P : Lits → Type 0) (chain : (cs : List Lits) (s : Lits) → Resolves cs s → ((c : Lits) → Has cs c → P c) → P s)
+      (original : (k : ℕ) → HasClause f (lits_at t k) → antecedents_at t k ≡ [] → Keeps P k) where
+    kept_with : (k : ℕ) (ps : List ℕ) → ps ≡ antecedents_at t k → ClauseFault f t w k None
+        → ((p : ℕ) → Has (antecedents_at t k) p → Keeps P p) → Keeps P k
+    kept_with k [] e right before = original k (original_with f t w k (antecedents_at t k) right (sym e)) (sym e)
+    kept_with k (p ∷ ps) e right before =
+        let given = given_all (LitsOf t) P (antecedents_at t k) before in
+        let own = resolves_with f t w k given.0 earlier right (λ none. let both : p ∷ ps ≡ [] = e ∙ none in cc) given.1 in
+        (own.0, own.1, chain given.0 own.0 own.2 given.2)
+
+    all_keep : (n : ℕ) → AllRightBefore f t w n → (bound k : ℕ) → k < bound → k < n → Keeps P k
+    all_keep n right zero k below within = absurd (omega arith)
+    all_keep n right (suc bound) k below within =
+        kept_with k (antecedents_at t k) refl (right k within)
+        (λ p i. let before : p < k = earlier k p i in all_keep n right bound p (omega arith) (omega arith))
+
+    pub keep : (n k : ℕ) → AllRightBefore f t w n → k < n → Keeps P k
+    keep n k right within = all_keep n right n k within within
+
+-- an original is true where the list is
+original_true : (f : List Lits) (t : List Entry) (a : List ℕ) → ((c : Lits) → Has f c → Satisfies a c)
+    → (k : ℕ) → HasClause f (lits_at t k) → antecedents_at t k ≡ [] → (c : Lits) × (LitsOf t k ≡ Some c) × Satisfies a c
+original_true f t a all k h none = stated_true (stated_at t k) refl (satisfies_same a h.0 (lits_at t k) h.2 (all h.0 h.1))
+  where
+    stated_true : (stated : Option Lits) → stated_at t k ≡ stated → Satisfies a (lits_at t k) → (c : Lits) × (LitsOf t k ≡ Some c) × Satisfies a c
+    stated_true None e s = absurd (let empty : Satisfies a [] = subst (λ o. Satisfies a (literals_in o)) e s in empty.1)
+    stated_true (Some c) e s = (c, lits_stated t k c e, subst (λ o. Satisfies a (literals_in o)) e s)
+
+pub unsat : (variables : ℕ) (f : List Lits) (t : List Entry) (w : ℕ) → AntecedentsAreEarlier t
+    → AllRightBefore f t w (length t) → EndsEmpty t → Unsat variables f
+unsat variables f t w earlier right ends a assignment all =
     let last : length t - 1 < length t = let some = ends.0 in omega arith in
-    let empty : Satisfies a [] = subst (Satisfies a) ends.1 (all_true f t a all earlier right (length t) (length t - 1) last last) in
+    let kept = keep f t w earlier (Satisfies a) (resolves_keeps a) (original_true f t a all) (length t) (length t - 1) right last in
+    let same : kept.0 ≡ [] = let one = kept.1 in let other = ends.1 in cc in
+    let empty : Satisfies a [] = subst (Satisfies a) same kept.2 in
     empty.1

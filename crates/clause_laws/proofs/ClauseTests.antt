@@ -1,5 +1,5 @@
 -- Clauses are compared as sets: each question on them is answered by yes or no.
-use Rattle.std.proofs.Common.{◌≢◌, ◌↔◌, ◌⊎◌, inl, inr, List, [], ◌∷◌, ◌++◌, refl, sym, ◌∙◌, subst}
+use Rattle.std.proofs.Common.{◌↔◌, ◌⊎◌, inl, inr, List, [], ◌∷◌, ◌++◌, refl, sym, subst}
 use Rattle.clause_defs.specs.Literals.{Literal}
 use Rattle.clause_defs.specs.Clauses.{Lits, Has, SameSet, HasClause}
 use Rattle.clause_laws.proofs.LiteralLemmas.{literal_cases}
@@ -50,28 +50,6 @@ has_clause_cases (d ∷ ds) c =
         | inl h ↦ inl (h.0, inr h.1, h.2)
         | inr none ↦ inr (λ h. elim h.1 [ inl e ↦ other (let S : Lits → Type 0 = λ x. SameSet x c in subst S (sym e) h.2) | inr i ↦ none (h.0, i, h.2) ])
       ]
-    ]
-
--- the clause without one of its literals
-pub without : (p : Literal) (c : Lits) → (s : Lits) × ((l : Literal) → Has s l ↔ (Has c l × (l ≢ p)))
-without p [] = ([], λ l. (λ h. absurd h, λ h. h.0))
-without p (m ∷ ms) =
-    let rest = without p ms in
-    elim (literal_cases m p) [
-      | inl e ↦ (
-        rest.0,
-        λ l. (
-          λ h. let i = (rest.1 l).0 h in (inr i.0, i.1),
-          λ h. elim h.0 [ inl k ↦ absurd (h.1 (sym k ∙ e)) | inr i ↦ (rest.1 l).1 (i, h.1) ],
-        ),
-      )
-      | inr other ↦ (
-        m ∷ rest.0,
-        λ l. (
-          λ h. elim h [ inl k ↦ (inl k, λ q. other (k ∙ q)) | inr i ↦ let j = (rest.1 l).0 i in (inr j.0, j.1) ],
-          λ h. elim h.0 [ inl k ↦ inl k | inr i ↦ inr ((rest.1 l).1 (i, h.1)) ],
-        ),
-      )
     ]
 
 -- what two lists one after the other have, one of them has

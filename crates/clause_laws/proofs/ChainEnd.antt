@@ -1,13 +1,13 @@
 -- Each chain comes to an end: a faulty step, another clause than the stated one, or the stated one.
-use Rattle.std.proofs.Common.{◌≡◌, ℕ, ◌+◌, ◌⊎◌, inl, inr, List, [], ◌∷◌, ◌++◌, Result, Ok, Err, refl, sym, ◌∙◌, subst}
+use Rattle.std.proofs.Common.{◌≡◌, ℕ, ◌+◌, ◌⊎◌, inl, inr, List, [], ◌∷◌, Option, Some, None, Result, Ok, Err, refl, sym, ◌∙◌, subst}
 use Rattle.clause_defs.specs.Literals.{Literal, negation}
 use Rattle.clause_defs.specs.Clauses.{Lits, Has}
-use Rattle.clause_defs.specs.Resolution.{Clashes, Step, NoneClashes, SeveralClash}
-use Rattle.clause_defs.specs.Verdicts.{ChainEnds, ChainFault}
+use Rattle.clause_defs.specs.Resolution.{Clashes, Step, NoClash, ManyClash, resolvent_on}
+use Rattle.clause_defs.specs.Verdicts.{EndsAt, ChainEnds, ChainFault}
 use Rattle.clause_defs.specs.declared.verdict.ChainError.{ChainError}
-use Rattle.clause_defs.specs.declared.verdict.ChainError.TheVariants.{NoClash, ManyClash, Other}
 use Rattle.clause_laws.proofs.LiteralLemmas.{literal_cases}
-use Rattle.verify_laws.proofs.ClauseTests.{has_cases, same_set_cases, without, Has_append}
+use Rattle.clause_laws.proofs.ClauseTests.{has_cases, same_set_cases}
+use Rattle.clause_laws.proofs.Resolvents.{step_on}
 
 -- exactly one literal clashes
 record OneClashes (r c : Lits) : Type 0 where
@@ -17,14 +17,14 @@ record OneClashes (r c : Lits) : Type 0 where
 
 -- none, one or several
 abbrev HowManyClash : Lits → Lits → Type 0
-HowManyClash r c = NoneClashes r c ⊎ (OneClashes r c ⊎ SeveralClash r c)
+HowManyClash r c = NoClash r c ⊎ (OneClashes r c ⊎ ManyClash r c)
 
 -- a literal of the rest that clashes is one of the whole
 clashes_behind : (m : Literal) (ms c : Lits) (l : Literal) → Clashes ms c l → Clashes (m ∷ ms) c l
 clashes_behind m ms c l h = (inr h.0, h.1)
 
 -- so are several
-several_behind : (m : Literal) (ms c : Lits) → SeveralClash ms c → SeveralClash (m ∷ ms) c
+several_behind : (m : Literal) (ms c : Lits) → ManyClash ms c → ManyClash (m ∷ ms) c
 several_behind m ms c h = (h.0, h.1, h.2, clashes_behind m ms c h.0 h.3, clashes_behind m ms c h.1 h.4)
 
 -- a first literal that doesn't clash changes nothing
@@ -69,34 +69,25 @@ how_many_clash (m ∷ ms) c =
 
 -- where one literal clashes there is a resolvent
 step_exists : (r c : Lits) → OneClashes r c → (s : Lits) × Step r c s
-step_exists r c one =
-    let left = without one.pivot r in
-    let right = without (negation one.pivot) c in (
-      left.0 ++ right.0,
-      record {
-        pivot = one.pivot;
-        clashes = one.clashes;
-        only = one.only;
-        resolvent = λ l. (
-          λ h. elim ((Has_append left.0 right.0 l).0 h) [ inl i ↦ inl ((left.1 l).0 i) | inr i ↦ inr ((right.1 l).0 i) ],
-          λ h. (Has_append left.0 right.0 l).1 (elim h [ inl i ↦ inl ((left.1 l).1 i) | inr i ↦ inr ((right.1 l).1 i) ]),
-        );
-      },
-    )
+step_exists r c one = (resolvent_on one.pivot r c, step_on r c one.pivot one.clashes one.only)
 
--- a chain has an end, from each of its steps on
-end_exists : (index : ℕ) (stated : Lits) (step : ℕ) (r : Lits) (cs : List Lits)
-    → (end : Result (Unit {0}) ChainError) × ChainEnds index stated step r cs end
-end_exists index stated step r [] =
+stop_exists : (index : ℕ) (stated : Option Lits) (r : Lits) → (end : Result (Unit {0}) ChainError) × EndsAt index stated r end
+stop_exists index None r = (Ok tt, refl)
+stop_exists index (Some stated) r =
     elim (same_set_cases r stated) [
       | inl same ↦ (Ok tt, inl (same, refl))
-      | inr other ↦ (Err (Other index), inr (other, refl))
+      | inr other ↦ (Err (ChainError.Other index), inr (other, refl))
     ]
+
+-- a chain has an end, from each of its steps on
+end_exists : (index : ℕ) (stated : Option Lits) (step : ℕ) (r : Lits) (cs : List Lits)
+    → (end : Result (Unit {0}) ChainError) × ChainEnds index stated step r cs end
+end_exists index stated step r [] = stop_exists index stated r
 end_exists index stated step r (c ∷ cs) =
     elim (how_many_clash r c) [
-      | inl none ↦ (Err (NoClash index step), inl (none, refl))
+      | inl none ↦ (Err (ChainError.NoClash index step), inl (none, refl))
       | inr some ↦ elim some [
-        | inr several ↦ (Err (ManyClash index step), inr (inl (several, refl)))
+        | inr several ↦ (Err (ChainError.ManyClash index step), inr (inl (several, refl)))
         | inl one ↦
             let next = step_exists r c one in
             let rest = end_exists index stated (step + 1) next.0 cs in
@@ -105,6 +96,6 @@ end_exists index stated step r (c ∷ cs) =
     ]
 
 -- the chain of a derived clause has an end
-pub chain_end_exists : (index : ℕ) (stated r : Lits) (cs : List Lits)
+pub chain_end_exists : (index : ℕ) (stated : Option Lits) (r : Lits) (cs : List Lits)
     → (end : Result (Unit {0}) ChainError) × ChainFault index stated (r ∷ cs) end
 chain_end_exists index stated r cs = end_exists index stated 1 r cs

@@ -1,3 +1,0 @@
-pub mod ClauseTests
-pub mod ChainEnd
-pub mod Verdict

@@ -22,7 +22,7 @@ use Rattle.miter_laws.proofs.Extension.{equal-from_unsat}
 use Rattle.bundle_defs.specs.Bundles.{BundleValue, BundleText}
 use Rattle.bundle.proofs.AnswerLemmas.{answer_in, answer_in-only}
 use Rattle.verify_laws.proofs.Configuration.{answer_unique}
-use Rattle.verify_laws.proofs.Verdict.{verdict_exists}
+use Rattle.clause_laws.proofs.Verdict.{verdict_exists}
 use Rattle.verify_laws.proofs.CellList.{cells_exist}
 use Rattle.verify.specs.Acceptance.{HasParts, ShowsOfMiter, AcceptsWith}
 

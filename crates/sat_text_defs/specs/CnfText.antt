@@ -3,14 +3,14 @@
 use Rattle.std.specs.Prelude.{◌≡◌, ◌≢◌, ℕ, ◌+◌, ◌<◌, ◌≤◌, ◌⊎◌, Bool, true, false, ◌==◌, not, List, [], ◌∷◌, ◌++◌, length, map, drop, decimal, if◌then◌else◌}
 use Rattle.std.specs.List.{flat_map}
 use Rattle.clause_defs.specs.declared.verdict.TheConstants.{MAX_VARIABLE, MAX_CLAUSES}
-use Rattle.clause_defs.specs.Literals.{Literal, IsLiteral}
+use Rattle.clause_defs.specs.Literals.{Literal}
 use Rattle.clause_defs.specs.Clauses.{Lits, Has, SameSet, IsClause, WithinVariables}
 use Rattle.clause_defs.specs.Formulas.{Formula}
 use Rattle.text_defs.specs.Tokens.{Token, tokens}
 use Rattle.sat_text_defs.specs.declared.limits.TheConstants.{MAX_CNF_BYTES}
 use Rattle.sat_text_defs.specs.declared.errors.CnfError.{CnfError}
 use Rattle.sat_text_defs.specs.declared.errors.CnfError.TheVariants.{TooLong, Syntax, VarRange, Count, NoMemory}
-use Rattle.sat_text_defs.specs.Words.{separates, words_of, zero_word, literal_word}
+use Rattle.sat_text_defs.specs.Words.{separates, words_of, zero_word, literal_word, SpellsNumber, SpellsLiteral, IsLiteralWord}
 use Rattle.sat_text_defs.specs.Spellings.{is_zero}
 
 -- ---- comments
@@ -103,31 +103,23 @@ CnfText text f = (length text ≤ MAX_CNF_BYTES) × SpellsFormula (header_end te
 
 -- ---- faults
 
--- the word spells this number, which is at most max
-abbrev pub IsNumberWord : ℕ → List ℕ → ℕ → Type 0
-IsNumberWord max w n = (n ≤ max) × (w ≡ decimal n)
-
--- the word spells this literal
-abbrev pub IsLiteralWord : List ℕ → Literal → Type 0
-IsLiteralWord w l = IsLiteral l × (w ≡ literal_word l)
-
 -- the word is 0 or spells a literal
 abbrev pub IsClauseWord : List ℕ → Type 0
-IsClauseWord w = (w ≡ zero_word) ⊎ ((l : Literal) × IsLiteralWord w l)
+IsClauseWord w = (w ≡ zero_word) ⊎ IsLiteralWord w
 
 -- Whether a token can stand behind these tokens: `p`, `cnf` and two numbers on the first line with tokens,
 -- and behind that line 0 or a literal.
 abbrev pub CanStand : ℕ → List Token → Token → Type 0
 CanStand line [] t = (t.at < line) × (t.bytes ≡ p_word)
 CanStand line (p ∷ []) t = (t.at < line) × (t.bytes ≡ cnf_word)
-CanStand line (p ∷ cnf ∷ []) t = (t.at < line) × ((n : ℕ) × IsNumberWord MAX_VARIABLE t.bytes n)
-CanStand line (p ∷ cnf ∷ v ∷ []) t = (t.at < line) × ((n : ℕ) × IsNumberWord MAX_CLAUSES t.bytes n)
+CanStand line (p ∷ cnf ∷ []) t = (t.at < line) × ((n : ℕ) × SpellsNumber MAX_VARIABLE t.bytes n)
+CanStand line (p ∷ cnf ∷ v ∷ []) t = (t.at < line) × ((n : ℕ) × SpellsNumber MAX_CLAUSES t.bytes n)
 CanStand line (p ∷ cnf ∷ v ∷ c ∷ us) t = (line ≤ t.at) × IsClauseWord t.bytes
 
 -- the token is a literal whose variable is greater than the number of variables that the header says
 abbrev pub IsOutOfRange : List Token → Token → Type 0
 IsOutOfRange (p ∷ cnf ∷ v ∷ c ∷ us) t =
-    (n : ℕ) × IsNumberWord MAX_VARIABLE v.bytes n × ((l : Literal) × IsLiteralWord t.bytes l × (n < l.variable))
+    (n : ℕ) × SpellsNumber MAX_VARIABLE v.bytes n × ((l : Literal) × SpellsLiteral t.bytes l × (n < l.variable))
 IsOutOfRange before t = ⊥
 
 -- a token that is right behind these tokens
@@ -172,7 +164,7 @@ zeros (w ∷ ws) = if is_zero w then (1 + zeros ws) else zeros ws
 
 -- the header says `said` clauses, and there are `found`
 abbrev pub Counts : List Token → ℕ → ℕ → Type 0
-Counts (p ∷ cnf ∷ v ∷ c ∷ us) said found = IsNumberWord MAX_CLAUSES c.bytes said × (found ≡ zeros (words_of us))
+Counts (p ∷ cnf ∷ v ∷ c ∷ us) said found = SpellsNumber MAX_CLAUSES c.bytes said × (found ≡ zeros (words_of us))
 Counts ts said found = ⊥
 
 -- the fault of a text that isn't too long; no text gives want of memory

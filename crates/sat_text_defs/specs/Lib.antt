@@ -4,3 +4,4 @@ pub mod TraceText
 pub mod TraceReading
 pub mod CnfText
 pub mod CnfReading
+pub mod Printed

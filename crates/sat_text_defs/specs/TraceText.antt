@@ -12,7 +12,7 @@ use Rattle.text_defs.specs.Tokens.{Token, tokens}
 use Rattle.sat_text_defs.specs.declared.limits.TheConstants.{MAX_TRACE_BYTES}
 use Rattle.sat_text_defs.specs.declared.errors.TraceError.{TraceError}
 use Rattle.sat_text_defs.specs.declared.errors.TraceError.TheVariants.{TooLong, Syntax, Repeated, Unknown, NoMemory}
-use Rattle.sat_text_defs.specs.Words.{separates, words_of, zero_word, sign_word, literal_word}
+use Rattle.sat_text_defs.specs.Words.{separates, words_of, zero_word, sign_word, literal_word, IsIndexWord, IsLiteralWord}
 use Rattle.sat_text_defs.specs.Spellings.{is_zero, is_sign}
 
 -- ---- texts of traces
@@ -99,12 +99,6 @@ role_after antecedent w = if is_zero w then index else antecedent
 abbrev pub role_behind : Role → List (List ℕ) → Role
 role_behind r [] = r
 role_behind r (w ∷ ws) = role_behind (role_after r w) ws
-
-abbrev pub IsIndexWord : List ℕ → Type 0
-IsIndexWord w = (n : ℕ) × (1 ≤ n) × (n ≤ MAX_INDEX) × (w ≡ decimal n)
-
-abbrev pub IsLiteralWord : List ℕ → Type 0
-IsLiteralWord w = (l : Literal) × IsLiteral l × (w ≡ literal_word l)
 
 -- the word can have this role, in a text of version v
 abbrev pub CanStandAs : ℕ → Role → List ℕ → Type 0

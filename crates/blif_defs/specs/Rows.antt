@@ -4,7 +4,8 @@ use Rattle.std.specs.List.{list_all}
 use Rattle.std.specs.Str.{bytes_eq}
 use Rattle.blif_defs.specs.declared.mark.Mark.{Mark}
 use Rattle.blif_defs.specs.declared.mark.Mark.TheVariants.{Zero, One, Any}
-use Rattle.blif_defs.specs.Faults.{Fault, Syntax, Mixed}
+use Rattle.blif_defs.specs.declared.error.BlifError.{BlifError}
+use Rattle.blif_defs.specs.declared.error.BlifError.TheVariants.{Syntax, Mixed}
 use Rattle.blif_defs.specs.Values.{CoverValue}
 
 -- `0`, `1` or `-`
@@ -41,7 +42,7 @@ agrees c on = (length c.rows == 0) || (if on then c.on else not c.on)
 abbrev pub with_row : CoverValue → List ℕ → Bool → CoverValue
 with_row c marks on = record c { on = on; rows = c.rows ++ map mark_of marks ∷ [] }
 
-abbrev pub row_onto : ℕ → CoverValue → Option (List ℕ × List ℕ) → Result CoverValue Fault
+abbrev pub row_onto : ℕ → CoverValue → Option (List ℕ × List ℕ) → Result CoverValue BlifError
 row_onto at c None = Err (Syntax at)
 row_onto at c (Some row) =
     if is_row c row.0 row.1

@@ -1,7 +1,8 @@
 -- The value of a BLIF text, and the first fault of a text that has no value.
-use Rattle.std.specs.Prelude.{◌≡◌, ◌≢◌, ℕ, ◌<◌, ◌≤◌, ◌⊎◌, List, [], ◌∷◌, ◌++◌, length, Ok, Err}
+use Rattle.std.specs.Prelude.{◌≡◌, ◌≢◌, ℕ, ◌<◌, ◌≤◌, ◌⊎◌, List, [], ◌∷◌, ◌++◌, length, Result, Ok, Err}
 use Rattle.blif_defs.specs.declared.mark.TheConstants.{MAX_BYTES}
-use Rattle.blif_defs.specs.Faults.{Fault, TooLong, NoOutputs}
+use Rattle.blif_defs.specs.declared.error.BlifError.{BlifError}
+use Rattle.blif_defs.specs.declared.error.BlifError.TheVariants.{TooLong, NoOutputs}
 use Rattle.blif_defs.specs.Values.{BlifValue}
 use Rattle.blif_defs.specs.Drafts.{Draft, start, value_of}
 use Rattle.blif_defs.specs.Grammar.{Statement, statements, with_words}
@@ -20,7 +21,7 @@ pub record BlifText (text : List ℕ) (m : BlifValue) : Type 0 where
   pub value : value_of end ≡ m
 
 -- fault is that of a line before which no line is faulty
-pub record IsFirstFaultyLine (text : List ℕ) (fault : Fault) : Type 0 where
+pub record IsFirstFaultyLine (text : List ℕ) (fault : BlifError) : Type 0 where
   pub short : length text ≤ MAX_BYTES
   pub before : List Statement
   pub line : Statement
@@ -39,7 +40,12 @@ pub record LacksOutputs (text : List ℕ) : Type 0 where
 
 -- fault is the first fault of the text: that it is too long, else that of its first faulty line, else
 -- that it has no output
-abbrev pub BlifFault : List ℕ → Fault → Type 0
+abbrev pub BlifFault : List ℕ → BlifError → Type 0
 BlifFault text fault =
     ((MAX_BYTES < length text) × (fault ≡ TooLong))
     ⊎ (IsFirstFaultyLine text fault ⊎ (LacksOutputs text × (fault ≡ NoOutputs)))
+
+-- the value of a text, or its first fault
+abbrev pub BlifOf : List ℕ → Result BlifValue BlifError → Type 0
+BlifOf text (Ok m) = BlifText text m
+BlifOf text (Err fault) = BlifFault text fault

@@ -11,7 +11,7 @@ use Rattle.blif_defs.specs.declared.kind.LineKind.TheVariants.{Model, Inputs, Ou
 use Rattle.blif_defs.specs.declared.mark.TheConstants.{MAX_PORTS, MAX_SIGNALS}
 use Rattle.blif_defs.specs.Words.{is_sound, IsWord}
 use Rattle.blif_defs.specs.Lines.{without_last}
-use Rattle.blif_defs.specs.Faults.{Syntax, Mixed, Unsupported, DoubleDriven, RepeatedOutput, Limit}
+use Rattle.blif_defs.specs.declared.error.BlifError.TheVariants.{Syntax, Mixed, Unsupported, DoubleDriven, RepeatedOutput, Limit}
 use Rattle.blif_defs.specs.Values.{CoverValue, IsCover, signals_of}
 use Rattle.blif_defs.specs.Drafts.{Draft, start, closed, all_covers, signals, signal_count, is_among}
 use Rattle.blif_defs.specs.Rows.{row_parts, row_onto, is_row, is_mark, is_bit, agrees, with_row, bit_of, mark_of}

@@ -3,33 +3,35 @@ use Rattle.std.proofs.Common.{◌≡◌, ℕ, ◌<◌, ◌≤◌, ◌≢◌, Boo
 use Rattle.std.specs.Prelude.{◌==◌, nat_le}
 use Rattle.std.proofs.lemmas.Bool.Decides.{nat_tests}
 use Rattle.blif_defs.specs.declared.mark.TheConstants.{MAX_BYTES}
-use Rattle.blif_defs.specs.Faults.{Fault, TooLong, NoOutputs, ◌>>=◌}
+use Rattle.blif_defs.specs.declared.error.BlifError.{BlifError}
+use Rattle.blif_defs.specs.declared.error.BlifError.TheVariants.{TooLong, NoOutputs}
+use Rattle.blif_defs.specs.Steps.{◌>>=◌}
 use Rattle.blif_defs.specs.Values.{BlifValue}
 use Rattle.blif_defs.specs.Drafts.{Draft, start, value_of}
 use Rattle.blif_defs.specs.Grammar.{Statement, statements, with_words, with_statements, finished, reading}
 use Rattle.blif_defs.specs.Texts.{Follows, BlifText, IsFirstFaultyLine, LacksOutputs, BlifFault}
 
 -- the value of a step that did not fail
-pub bind_ok : {A B : Type 0} (r : Result A Fault) (f : A → Result B Fault) (y : B) → (r >>= f) ≡ Ok y → (x : A) × (r ≡ Ok x) × (f x ≡ Ok y)
+pub bind_ok : {A B : Type 0} (r : Result A BlifError) (f : A → Result B BlifError) (y : B) → (r >>= f) ≡ Ok y → (x : A) × (r ≡ Ok x) × (f x ≡ Ok y)
 bind_ok (Ok x) f y e = (x, refl, e)
 bind_ok (Err d) f y e = absurd cc
 
 -- a test that let a value through
-pub passed : {A : Type 0} (b : Bool) (d : Fault) (r : Result A Fault) (y : A) → cond b r (Err d) ≡ Ok y → (b ≡ true) × (r ≡ Ok y)
+pub passed : {A : Type 0} (b : Bool) (d : BlifError) (r : Result A BlifError) (y : A) → cond b r (Err d) ≡ Ok y → (b ≡ true) × (r ≡ Ok y)
 passed true d r y e = (refl, e)
 passed false d r y e = absurd cc
 
-pub kept : {A : Type 0} (b : Bool) (d : Fault) (r : Result A Fault) (y : A) → cond b (Err d) r ≡ Ok y → (b ≡ false) × (r ≡ Ok y)
+pub kept : {A : Type 0} (b : Bool) (d : BlifError) (r : Result A BlifError) (y : A) → cond b (Err d) r ≡ Ok y → (b ≡ false) × (r ≡ Ok y)
 kept true d r y e = absurd cc
 kept false d r y e = (refl, e)
 
-abbrev pub ok : {A : Type 0} → A → Result A Fault
+abbrev pub ok : {A : Type 0} → A → Result A BlifError
 ok x = Ok x
 
 pub ok_is : {A : Type 0} (x y : A) → ok x ≡ ok y → x ≡ y
 ok_is x y e = cc
 
-abbrev pub err : {A : Type 0} → Fault → Result A Fault
+abbrev pub err : {A : Type 0} → BlifError → Result A BlifError
 err f = Err f
 
 -- ---- lines without a fault
@@ -47,7 +49,7 @@ Follows-with_statements d (s ∷ ss) e h =
 -- ---- the first faulty line
 
 -- the lines d leads along up to a faulty one
-pub record Stops (d : Draft) (ss : List Statement) (fault : Fault) : Type 0 where
+pub record Stops (d : Draft) (ss : List Statement) (fault : BlifError) : Type 0 where
   pub before : List Statement
   pub line : Statement
   pub after : List Statement
@@ -56,7 +58,7 @@ pub record Stops (d : Draft) (ss : List Statement) (fault : Fault) : Type 0 wher
   pub follows : Follows d before draft
   pub faulty : with_words line.at draft line.words ≡ Err fault
 
-pub with_statements-stops : (d : Draft) (before : List Statement) (line : Statement) (after : List Statement) (draft : Draft) (fault : Fault)
+pub with_statements-stops : (d : Draft) (before : List Statement) (line : Statement) (after : List Statement) (draft : Draft) (fault : BlifError)
     → Follows d before draft → with_words line.at draft line.words ≡ Err fault → with_statements d (before ++ line ∷ after) ≡ Err fault
 with_statements-stops d [] line after draft fault h f =
     let f : with_words line.at d line.words ≡ Err fault = subst (λ (x : Draft). with_words line.at x line.words ≡ Err fault) (sym h) f in
@@ -64,7 +66,7 @@ with_statements-stops d [] line after draft fault h f =
 with_statements-stops d (s ∷ before) line after draft fault h f = rw h.1 (with_statements-stops h.0 before line after draft fault h.2 f)
 
 -- where a step goes on or fails
-stops_by : (r : Result Draft Fault) (d : Draft) (s : Statement) (ss : List Statement) (fault : Fault) → with_words s.at d s.words ≡ r
+stops_by : (r : Result Draft BlifError) (d : Draft) (s : Statement) (ss : List Statement) (fault : BlifError) → with_words s.at d s.words ≡ r
     → (r >>= λ n. with_statements n ss) ≡ Err fault → ((n : Draft) → with_statements n ss ≡ Err fault → Stops n ss fault) → Stops d (s ∷ ss) fault
 stops_by (Ok n) d s ss fault is e ih =
     let t = ih n e in
@@ -81,7 +83,7 @@ stops_by (Err f) d s ss fault is e ih =
     let faulty : with_words s.at d s.words ≡ Err fault = cc in
     record { before = []; line = s; after = ss; parts = refl; draft = d; follows = refl; faulty = faulty }
 
-pub stops : (d : Draft) (ss : List Statement) (fault : Fault) → with_statements d ss ≡ Err fault → Stops d ss fault
+pub stops : (d : Draft) (ss : List Statement) (fault : BlifError) → with_statements d ss ≡ Err fault → Stops d ss fault
 stops d [] fault e = absurd cc
 stops d (s ∷ ss) fault e = stops_by (with_words s.at d s.words) d s ss fault refl e (λ n h. stops n ss fault h)
 
@@ -118,7 +120,7 @@ some_outputs d m h =
     let k = kept (length d.outputs == 0) NoOutputs (Ok (value_of d)) m h in
     (λ (e : d.outputs ≡ []). apart (length d.outputs == 0) (ap (λ (outputs : List (List ℕ)). length outputs == 0) e) k.0, ok_is (value_of d) m k.1)
 
-no_outputs_by : (outputs : List (List ℕ)) (m : BlifValue) (fault : Fault) → cond (length outputs == 0) (Err NoOutputs) (ok m) ≡ Err fault → (outputs ≡ []) × (fault ≡ NoOutputs)
+no_outputs_by : (outputs : List (List ℕ)) (m : BlifValue) (fault : BlifError) → cond (length outputs == 0) (Err NoOutputs) (ok m) ≡ Err fault → (outputs ≡ []) × (fault ≡ NoOutputs)
 no_outputs_by [] m fault e = (refl, cc)
 no_outputs_by (o ∷ os) m fault e =
     let some : (length (o ∷ os) == 0) ≡ false = grind (arith, nat_tests) in
@@ -128,7 +130,7 @@ no_outputs_by (o ∷ os) m fault e =
 pub read_value : (text : List ℕ) (m : BlifValue) → BlifText text m → reading text ≡ Ok m
 read_value text m h =
     reading-short text h.short
-    ∙ ap (λ (r : Result Draft Fault). r >>= λ d. finished d) (with_statements-Follows start (statements text) h.end h.follows)
+    ∙ ap (λ (r : Result Draft BlifError). r >>= λ d. finished d) (with_statements-Follows start (statements text) h.end h.follows)
     ∙ finished-some h.end h.outputs ∙ ap ok h.value
 
 pub value_read : (text : List ℕ) (m : BlifValue) → reading text ≡ Ok m → BlifText text m
@@ -142,27 +144,27 @@ value_read text m h =
     within : (n : ℕ) → nat_le n MAX_BYTES ≡ true → n ≤ MAX_BYTES
     within n e = grind (arith, nat_tests)
 
-pub read_fault : (text : List ℕ) (fault : Fault) → BlifFault text fault → reading text ≡ Err fault
+pub read_fault : (text : List ℕ) (fault : BlifError) → BlifFault text fault → reading text ≡ Err fault
 read_fault text fault h =
     ⊎_elim (λ (long : (MAX_BYTES < length text) × (fault ≡ TooLong)). reading-long text long.0 ∙ ap err (sym long.1))
     (λ rest. ⊎_elim (by_line text fault) (by_outputs text fault) rest) h
   where
-    by_line : (text : List ℕ) (fault : Fault) → IsFirstFaultyLine text fault → reading text ≡ Err fault
+    by_line : (text : List ℕ) (fault : BlifError) → IsFirstFaultyLine text fault → reading text ≡ Err fault
     by_line text fault l =
         reading-short text l.short
         ∙ ap (λ (ss : List Statement). with_statements start ss >>= λ d. finished d) l.parts
-        ∙ ap (λ (r : Result Draft Fault). r >>= λ d. finished d) (with_statements-stops start l.before l.line l.after l.draft fault l.follows l.faulty)
+        ∙ ap (λ (r : Result Draft BlifError). r >>= λ d. finished d) (with_statements-stops start l.before l.line l.after l.draft fault l.follows l.faulty)
 
-    by_outputs : (text : List ℕ) (fault : Fault) → LacksOutputs text × (fault ≡ NoOutputs) → reading text ≡ Err fault
+    by_outputs : (text : List ℕ) (fault : BlifError) → LacksOutputs text × (fault ≡ NoOutputs) → reading text ≡ Err fault
     by_outputs text fault l =
         reading-short text l.0.short
-        ∙ ap (λ (r : Result Draft Fault). r >>= λ d. finished d) (with_statements-Follows start (statements text) l.0.end l.0.follows)
+        ∙ ap (λ (r : Result Draft BlifError). r >>= λ d. finished d) (with_statements-Follows start (statements text) l.0.end l.0.follows)
         ∙ finished-none l.0.end l.0.outputs ∙ ap err (sym l.1)
 
-pub fault_read : (text : List ℕ) (fault : Fault) → reading text ≡ Err fault → BlifFault text fault
+pub fault_read : (text : List ℕ) (fault : BlifError) → reading text ≡ Err fault → BlifFault text fault
 fault_read text fault h = by (nat_le (length text) MAX_BYTES) refl h
   where
-    after : (r : Result Draft Fault) → with_statements start (statements text) ≡ r → length text ≤ MAX_BYTES → (r >>= λ d. finished d) ≡ Err fault → BlifFault text fault
+    after : (r : Result Draft BlifError) → with_statements start (statements text) ≡ r → length text ≤ MAX_BYTES → (r >>= λ d. finished d) ≡ Err fault → BlifFault text fault
     after (Ok d) is short e =
         let n = no_outputs_by d.outputs (value_of d) fault e in
         inr (inr (record { short = short; end = d; follows = Follows-with_statements start (statements text) d is; outputs = n.0 }, n.1))

@@ -9,3 +9,5 @@ pub mod Designs
 pub mod LineTexts
 pub mod PrintedWords
 pub mod PrintedLines
+pub mod Saying
+pub mod Reading

@@ -15,7 +15,9 @@ use Rattle.blif_defs.specs.declared.mark.Mark.TheVariants.{Zero, One, Any}
 use Rattle.blif_defs.specs.declared.mark.TheConstants.{MAX_BYTES, MAX_PORTS, MAX_SIGNALS}
 use Rattle.blif_defs.specs.Words.{is_sound, IsWord}
 use Rattle.blif_defs.specs.Lines.{without_last}
-use Rattle.blif_defs.specs.Faults.{Fault, Syntax, Mixed, ◌>>=◌}
+use Rattle.blif_defs.specs.declared.error.BlifError.{BlifError}
+use Rattle.blif_defs.specs.declared.error.BlifError.TheVariants.{Syntax, Mixed}
+use Rattle.blif_defs.specs.Steps.{◌>>=◌}
 use Rattle.blif_defs.specs.Values.{CoverValue, IsCover, BlifValue, IsBlif, signals_of}
 use Rattle.blif_defs.specs.Drafts.{Draft, start, signals, signal_count, is_among}
 use Rattle.blif_defs.specs.Rows.{is_mark, mark_of, is_bit, bit_of, row_parts, is_row, agrees, with_row, row_onto}
@@ -50,7 +52,7 @@ sound_all : (ws : List (List ℕ)) → AllByRecursion IsWord ws → list_all is_
 sound_all [] h = refl
 sound_all (w ∷ ws) h = and (is_sound w) (list_all is_sound ws) h.0.sound (sound_all ws h.1)
 
-by_tests : (sound ended : Bool) (f g : Fault) (r : Result Draft Fault) → sound ≡ true → ended ≡ false → cond sound (cond ended (Err f) r) (Err g) ≡ r
+by_tests : (sound ended : Bool) (f g : BlifError) (r : Result Draft BlifError) → sound ≡ true → ended ≡ false → cond sound (cond ended (Err f) r) (Err g) ≡ r
 by_tests true false f g r e h = refl
 by_tests true true f g r e h = absurd cc
 by_tests false ended f g r e h = absurd cc
@@ -61,7 +63,7 @@ run_line : (at : ℕ) (d : Draft) (first : List ℕ) (names : List (List ℕ)) (
 run_line at d first names kind e words before is h =
     by_tests (list_all is_sound (first ∷ names)) d.ended (after_end (kind_of first) at) (Syntax at) (with_line (kind_of first) at d first names >>= λ x. Ok (begun_with x)) (sound_all (first ∷ names) words) before
     ∙ ap (λ (k : LineKind). with_line k at d first names >>= λ x. Ok (begun_with x)) is
-    ∙ ap (λ (r : Result Draft Fault). r >>= λ x. Ok (begun_with x)) h
+    ∙ ap (λ (r : Result Draft BlifError). r >>= λ x. Ok (begun_with x)) h
 
 -- ---- names
 
@@ -244,7 +246,7 @@ rows_lead at model inputs outputs covers c on done (row ∷ rest) fits same all 
         → with_row_line at here here.current (row_words c.on row) ≡ ok (record here { current = Some (opened c c.on (done ++ row ∷ [])) })
     line_by at here c on done row is len same =
         ap (λ (o : Option CoverValue). with_row_line at here o (row_words c.on row)) is
-        ∙ ap (λ (r : Result CoverValue Fault). r >>= λ e. Ok (record here { current = Some e })) (row_again at c on done row len same)
+        ∙ ap (λ (r : Result CoverValue BlifError). r >>= λ e. Ok (record here { current = Some e })) (row_again at c on done row len same)
 
     row_line : (at : ℕ) (here : Draft) (c : CoverValue) (on : Bool) (done : List (List Mark)) (row : List Mark) (next : Draft) → here.ended ≡ false → here.current ≡ Some (opened c on done)
         → next ≡ begun_with (record here { current = Some (opened c c.on (done ++ row ∷ [])) }) → length row ≡ length c.ins → (done ≡ []) ⊎ (on ≡ c.on)

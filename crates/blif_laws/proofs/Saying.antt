@@ -14,7 +14,7 @@ use Rattle.blif_defs.specs.declared.mark.Mark.TheVariants.{Zero, One, Any}
 use Rattle.blif_defs.specs.declared.mark.TheConstants.{MAX_PORTS, MAX_SIGNALS}
 use Rattle.blif_defs.specs.Words.{is_sound}
 use Rattle.blif_defs.specs.Lines.{without_last}
-use Rattle.blif_defs.specs.Faults.{Syntax, Mixed, Unsupported, DoubleDriven, RepeatedOutput, Limit}
+use Rattle.blif_defs.specs.declared.error.BlifError.TheVariants.{Syntax, Mixed, Unsupported, DoubleDriven, RepeatedOutput, Limit}
 use Rattle.blif_defs.specs.Values.{CoverValue, BlifValue}
 use Rattle.blif_defs.specs.Drafts.{Draft, start, closed, all_covers, signals, signal_count, is_among}
 use Rattle.blif_defs.specs.Rows.{is_mark, mark_of, is_bit, bit_of, row_parts, is_row, agrees, with_row, row_onto}
@@ -24,7 +24,7 @@ use Rattle.blif_defs.specs.Printing.{mark_byte, bit_word, row_words, cover_lines
 use Rattle.blif_laws.proofs.Following.{bind_ok, passed, kept, ok_is}
 use Rattle.blif_laws.proofs.LineLemmas.{split_last}
 use Rattle.blif_laws.proofs.LineWords.{both}
-use Rattle.blif_meaning.specs.Meaning.{inputs_of_kind, outputs_of_kind, cover_line_of_kind, inputs_on, outputs_on, cover_line_on, IsSaid}
+use Rattle.blif_laws.specs.Meaning.{inputs_of_kind, outputs_of_kind, cover_line_of_kind, inputs_on, outputs_on, cover_line_on, IsSaid}
 
 abbrev lines_of : Draft → List (List (List ℕ))
 lines_of d = flat_map cover_lines (all_covers d)

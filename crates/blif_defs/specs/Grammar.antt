@@ -9,7 +9,7 @@ use Rattle.blif_defs.specs.Words.{is_sound, words}
 use Rattle.blif_defs.specs.Lines.{Line, lines_of, without_last}
 use Rattle.blif_defs.specs.declared.error.BlifError.{BlifError}
 use Rattle.blif_defs.specs.declared.error.BlifError.TheVariants.{TooLong, Syntax, Unsupported, DoubleDriven, RepeatedOutput, Limit, NoOutputs}
-use Rattle.blif_defs.specs.Steps.{◌>>=◌}
+use Rattle.text_defs.specs.Steps.{◌>>=◌}
 use Rattle.blif_defs.specs.Values.{CoverValue, BlifValue}
 use Rattle.blif_defs.specs.Drafts.{Draft, start, closed, signals, signal_count, is_among, value_of}
 use Rattle.blif_defs.specs.Rows.{row_parts, row_onto}

@@ -1,7 +1,6 @@
 pub mod Words
 pub mod Lines
 pub mod Values
-pub mod Steps
 pub mod Drafts
 pub mod Rows
 pub mod Grammar

@@ -5,7 +5,7 @@ use Rattle.std.proofs.lemmas.Bool.Decides.{nat_tests}
 use Rattle.blif_defs.specs.declared.mark.TheConstants.{MAX_BYTES}
 use Rattle.blif_defs.specs.declared.error.BlifError.{BlifError}
 use Rattle.blif_defs.specs.declared.error.BlifError.TheVariants.{TooLong, NoOutputs}
-use Rattle.blif_defs.specs.Steps.{◌>>=◌}
+use Rattle.text_defs.specs.Steps.{◌>>=◌}
 use Rattle.blif_defs.specs.Values.{BlifValue}
 use Rattle.blif_defs.specs.Drafts.{Draft, start, value_of}
 use Rattle.blif_defs.specs.Grammar.{Statement, statements, with_words, with_statements, finished, reading}

@@ -17,7 +17,7 @@ use Rattle.blif_defs.specs.Words.{is_sound, IsWord}
 use Rattle.blif_defs.specs.Lines.{without_last}
 use Rattle.blif_defs.specs.declared.error.BlifError.{BlifError}
 use Rattle.blif_defs.specs.declared.error.BlifError.TheVariants.{Syntax, Mixed}
-use Rattle.blif_defs.specs.Steps.{◌>>=◌}
+use Rattle.text_defs.specs.Steps.{◌>>=◌}
 use Rattle.blif_defs.specs.Values.{CoverValue, IsCover, BlifValue, IsBlif, signals_of}
 use Rattle.blif_defs.specs.Drafts.{Draft, start, signals, signal_count, is_among}
 use Rattle.blif_defs.specs.Rows.{is_mark, mark_of, is_bit, bit_of, row_parts, is_row, agrees, with_row, row_onto}

@@ -7,7 +7,7 @@ use Rattle.blif_defs.specs.declared.error.BlifError.TheVariants.{TooLong, Syntax
 use Rattle.blif_defs.specs.declared.kind.LineKind.{LineKind}
 use Rattle.blif_defs.specs.declared.kind.LineKind.TheVariants.{Model, Inputs, Outputs, Names, End, Other, Row}
 use Rattle.blif_defs.specs.declared.mark.TheConstants.{MAX_BYTES, MAX_PORTS, MAX_SIGNALS}
-use Rattle.blif_defs.specs.Steps.{◌>>=◌}
+use Rattle.text_defs.specs.Steps.{◌>>=◌}
 use Rattle.blif_defs.specs.Words.{is_sound}
 use Rattle.blif_defs.specs.Lines.{without_last}
 use Rattle.blif_defs.specs.Values.{CoverValue, BlifValue}

@@ -1,5 +1,5 @@
 -- One turn of the loop over the lines of a text.
-use Rattle.std.proofs.Common.{◌≡◌, ℕ, ◌+◌, ◌<◌, ◌≤◌, Bool, true, false, List, [], ◌∷◌, ◌++◌, length, take, drop, Result, Ok, refl, sym, ap, ◌∙◌, arith, ⊎_elim, length-drop, Bor}
+use Rattle.std.proofs.Common.{◌≡◌, ℕ, ◌+◌, ◌<◌, ◌≤◌, Bool, true, false, List, [], ◌∷◌, ◌++◌, length, take, drop, Result, Ok, Err, refl, sym, ap, ◌∙◌, ◌⊎◌, inl, inr, arith, ⊎_elim, length-drop, Bor}
 use Rattle.std.specs.Prelude.{◌==◌}
 use Rattle.std.specs.List.{slice_split, onto_first, position_or_len}
 use Rattle.std.proofs.lemmas.Bool.{cases_Bool}
@@ -9,12 +9,11 @@ use Rattle.std.proofs.lemmas.List.Sums.{fails_before_first}
 use Rattle.std.proofs.lemmas.List.Splits.{slice_split_none, slice_split_first}
 use Rattle.blif_defs.specs.Words.{words}
 use Rattle.blif_defs.specs.Lines.{joins, content}
-use Rattle.blif_defs.specs.Faults.{Fault, ◌>>=◌}
+use Rattle.blif_defs.specs.declared.error.BlifError.{BlifError}
+use Rattle.text_defs.specs.Steps.{◌>>=◌}
 use Rattle.blif_defs.specs.Drafts.{Draft, start}
 use Rattle.blif_defs.specs.Grammar.{Statement, with_words, with_statements, statements}
-use Rattle.blif_read.specs.declared.error.BlifError.{BlifError}
-use Rattle.blif_read.specs.declared.error.BlifError.TheVariants as errors
-use Rattle.blif_read.specs.Reads.{Fails}
+use Rattle.blif_defs.specs.declared.error.BlifError.TheVariants.{NoMemory}
 use Rattle.blif_read.specs.Views.{texts}
 use Rattle.blif_laws.proofs.LineLemmas.{some_left}
 use Rattle.blif_laws.proofs.Joining.{put_in_front, from_line, last_line, single_line, nothing_in_front, joined_line}
@@ -53,7 +52,7 @@ lines-some (b ∷ bs) = ⊎_elim (λ e. ([], lines bs, rw e refl)) (λ e. first_
     first_of_more : (b : ℕ) (bs : List ℕ) → is_feed b ≡ false → (l : List ℕ) × (ls : List (List ℕ)) × (lines bs ≡ l ∷ ls) → (l : List ℕ) × (ls : List (List ℕ)) × (lines (b ∷ bs) ≡ l ∷ ls)
     first_of_more b bs e s = (b ∷ s.0, s.1, rw e (ap (onto_first b) s.2))
 
-abbrev ok : Bool × List (List ℕ) → Result (Bool × List (List ℕ)) Fault
+abbrev ok : Bool × List (List ℕ) → Result (Bool × List (List ℕ)) BlifError
 ok x = Ok x
 
 ok_is : (x y : Bool × List (List ℕ)) → ok x ≡ ok y → x ≡ y
@@ -71,7 +70,7 @@ pushed_slice : (line : List ℕ) (pending : List (List ℕ)) (flag : Bool) (item
     → ok (joins line, pending ++ words (content line)) ≡ ok (flag, texts items) → texts slice ≡ pending ++ words (content line)
 pushed_slice line pending flag items slice slice-is e = ap texts slice-is ∙ pushed_words (joins line, pending ++ words (content line)) (flag, texts items) e
 
-abbrev ok_draft : Draft → Result Draft Fault
+abbrev ok_draft : Draft → Result Draft BlifError
 ok_draft d = Ok d
 
 draft_is : (d e : Draft) → ok_draft d ≡ ok_draft e → d ≡ e
@@ -90,7 +89,7 @@ lines_begin d text items h none =
 
 -- ---- the turns
 
-pub last_step : (d : Draft) (first at n : ℕ) (pending : List (List ℕ)) (flag : Bool) (items slice : List (Bor (List ℕ))) (rest line after : List ℕ) (total : Result Draft Fault)
+pub last_step : (d : Draft) (first at n : ℕ) (pending : List (List ℕ)) (flag : Bool) (items slice : List (Bor (List ℕ))) (rest line after : List ℕ) (total : Result Draft BlifError)
     → n ≡ position_or_len is_feed rest → line ≡ take n rest → after ≡ drop n rest → true ≡ (length after == 0)
     → ok (joins line, pending ++ words (content line)) ≡ ok (flag, texts items) → slice ≡ items
     → with_statements d (put_in_front first pending (from_line at (lines rest))) ≡ total
@@ -104,7 +103,7 @@ last_step d first at n pending flag items slice rest line after total n-is line-
     ∙ ap (with_statements d) (last_line first pending at line)
     ∙ ap (λ (ws : List (List ℕ)). with_words first d ws >>= λ e. with_statements e []) (sym ws-is)
 
-pub single_step : (d : Draft) (first at n : ℕ) (pending : List (List ℕ)) (flag : Bool) (items slice : List (Bor (List ℕ))) (rest line after next : List ℕ) (total : Result Draft Fault)
+pub single_step : (d : Draft) (first at n : ℕ) (pending : List (List ℕ)) (flag : Bool) (items slice : List (Bor (List ℕ))) (rest line after next : List ℕ) (total : Result Draft BlifError)
     → n ≡ position_or_len is_feed rest → line ≡ take n rest → after ≡ drop n rest → false ≡ (length after == 0) → next ≡ drop 1 after
     → ok (joins line, pending ++ words (content line)) ≡ ok (flag, texts items) → slice ≡ items → flag ≡ false
     → with_statements d (put_in_front first pending (from_line at (lines rest))) ≡ total
@@ -124,7 +123,7 @@ single_step d first at n pending flag items slice rest line after next total n-i
     ∙ ap (λ (ws : List (List ℕ)). with_words first d ws >>= λ e. with_statements e (from_line (at + 1) (lines next))) (sym ws-is)
     ∙ ap (λ (more : List Statement). with_words first d (texts slice) >>= λ e. with_statements e more) front
 
-pub join_step : (d : Draft) (first at n : ℕ) (pending : List (List ℕ)) (flag : Bool) (items slice : List (Bor (List ℕ))) (rest line after next : List ℕ) (total : Result Draft Fault)
+pub join_step : (d : Draft) (first at n : ℕ) (pending : List (List ℕ)) (flag : Bool) (items slice : List (Bor (List ℕ))) (rest line after next : List ℕ) (total : Result Draft BlifError)
     → n ≡ position_or_len is_feed rest → line ≡ take n rest → after ≡ drop n rest → false ≡ (length after == 0) → next ≡ drop 1 after
     → ok (joins line, pending ++ words (content line)) ≡ ok (flag, texts items) → slice ≡ items → flag ≡ true
     → with_statements d (put_in_front first pending (from_line at (lines rest))) ≡ total
@@ -145,16 +144,9 @@ join_step d first at n pending flag items slice rest line after next total n-is 
 
 -- ---- what a step gives to the whole
 
-pub goes_on : {A B : Type 0} (r : Result A Fault) (x : A) (f : A → Result B Fault) (total : Result B Fault) → r ≡ Ok x → total ≡ (r >>= f) → total ≡ f x
-goes_on r x f total e t = t ∙ ap (λ (s : Result _ Fault). s >>= f) e
+pub goes_on : {A B : Type 0} (r : Result A BlifError) (x : A) (f : A → Result B BlifError) (total : Result B BlifError) → r ≡ Ok x → total ≡ (r >>= f) → total ≡ f x
+goes_on r x f total e t = t ∙ ap (λ (s : Result _ BlifError). s >>= f) e
 
-pub fails : {A B : Type 0} (e : BlifError) (r : Result A Fault) (f : A → Result B Fault) (total : Result B Fault) → Fails e r → total ≡ (r >>= f) → Fails e total
-fails errors.TooLong r f total h t = t ∙ ap (λ (s : Result _ Fault). s >>= f) h
-fails (errors.Syntax line) r f total h t = t ∙ ap (λ (s : Result _ Fault). s >>= f) h
-fails (errors.Unsupported line) r f total h t = t ∙ ap (λ (s : Result _ Fault). s >>= f) h
-fails (errors.Mixed line) r f total h t = t ∙ ap (λ (s : Result _ Fault). s >>= f) h
-fails (errors.DoubleDriven line) r f total h t = t ∙ ap (λ (s : Result _ Fault). s >>= f) h
-fails (errors.RepeatedOutput line) r f total h t = t ∙ ap (λ (s : Result _ Fault). s >>= f) h
-fails (errors.Limit line) r f total h t = t ∙ ap (λ (s : Result _ Fault). s >>= f) h
-fails errors.NoOutputs r f total h t = t ∙ ap (λ (s : Result _ Fault). s >>= f) h
-fails errors.NoMemory r f total h t = tt
+pub fails : {A B : Type 0} (e : BlifError) (r : Result A BlifError) (f : A → Result B BlifError) (total : Result B BlifError)
+    → (e ≡ NoMemory) ⊎ (r ≡ Err e) → total ≡ (r >>= f) → (e ≡ NoMemory) ⊎ (total ≡ Err e)
+fails e r f total h t = ⊎_elim (λ memory. inl memory) (λ is. inr (t ∙ ap (λ (s : Result _ BlifError). s >>= f) is)) h

@@ -1,7 +1,9 @@
 -- Designs as the plain records that definitions speak of.
-use Rattle.std.specs.Prelude.{ℕ, List, map, Option, Some, None}
+use Rattle.std.specs.Prelude.{ℕ, List, map, Option, Some, None, Result, Ok, Err}
 use Rattle.std.specs.Borrow.{Bor}
 use Rattle.blif_defs.specs.Values.{CoverValue, BlifValue}
+use Rattle.blif_defs.specs.declared.error.BlifError.{BlifError}
+use Rattle.blif_defs.specs.Texts.{BlifText, BlifFault}
 use Rattle.blif_read.specs.declared.cover.Cover.{Cover}
 use Rattle.blif_read.specs.declared.blif.Blif.{Blif}
 
@@ -19,3 +21,8 @@ texts words = map (λ w. w.now) words
 abbrev pub parts_of : Option (Bor (List ℕ) × Bor (List ℕ)) → Option (List ℕ × List ℕ)
 parts_of None = None
 parts_of (Some p) = Some (p.0.now, p.1.now)
+
+-- the design is the value of the text, or the error is its first fault
+abbrev pub IsReadFrom : List ℕ → Result Blif BlifError → Type 0
+IsReadFrom text (Ok b) = BlifText text (blif_of b)
+IsReadFrom text (Err fault) = BlifFault text fault

@@ -3,11 +3,12 @@ ghost use Rattle.std.specs.Prelude.{◌≡◌, ℕ, List, length, map, OnOk, Opt
 ghost use Rattle.std.specs.List.{list_all};
 ghost use Rattle.std.specs.Option.{option_map};
 ghost use Rattle.blif_defs.specs.Rows.{is_mark, is_bit, bit_of, row_parts, row_onto};
-ghost use Rattle.blif_read.specs.Reads.{Gives};
+ghost use Rattle.blif_defs.specs.declared.error.BlifError.TheVariants.{NoMemory};
+ghost use Rattle.text_defs.specs.Memory.{Gives};
 ghost use Rattle.blif_read.specs.Views.{cover_of, texts, parts_of};
 
 use crate::cover::Cover;
-use crate::error::BlifError;
+use blif_defs::BlifError;
 use crate::row::Row;
 use std::alloc::Global;
 
@@ -58,7 +59,7 @@ pub(crate) fn push_row(
     cover: &mut Cover,
     row: Option<(&[u8], &[u8])>,
 ) -> Result<(), BlifError>
-    ensures reads { Gives (λ _. cover_of cover.new) result (row_onto line (cover_of cover.old) (parts_of row.entry)) }
+    ensures reads { Gives NoMemory (λ _. cover_of cover.new) result (row_onto line (cover_of cover.old) (parts_of row.entry)) }
     ensures out { OnOk result (cover.new.out ≡ cover.old.out) }
 {
     let Some((marks, bit)) = row else {

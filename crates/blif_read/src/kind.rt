@@ -1,9 +1,8 @@
 //! What a line is, by its first word.
 ghost use Rattle.std.specs.Prelude.{◌≡◌};
 ghost use Rattle.blif_defs.specs.Grammar.{kind_of, after_end};
-ghost use Rattle.blif_read.specs.Reads.{IsFault};
 
-use crate::error::BlifError;
+use blif_defs::BlifError;
 use blif_defs::LineKind;
 
 /// What a line with this first word is.
@@ -29,7 +28,7 @@ pub(crate) fn kind_of(word: &[u8]) -> LineKind
 
 /// The fault of a line of this kind behind `.end`.
 pub(crate) fn after_end(kind: LineKind, line: u32) -> BlifError
-    ensures { IsFault result (after_end kind line) }
+    ensures { result ≡ after_end kind line }
 {
     match kind {
         LineKind::Model => BlifError::Unsupported { line },

@@ -7,7 +7,6 @@
 mod blif;
 mod cover;
 mod cover_row;
-mod error;
 mod kind;
 mod line;
 mod names;
@@ -17,9 +16,9 @@ mod reader;
 mod row;
 
 pub use blif::Blif;
-pub use blif_defs::Mark;
+pub use blif_defs::{BlifError, Mark};
 pub use cover::{Cover, Covers};
-pub use error::BlifError;
+
 pub use names::Names;
 pub use print::print_blif;
 pub use read::read_blif;

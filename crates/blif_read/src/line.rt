@@ -2,10 +2,11 @@ ghost use Rattle.std.specs.Prelude.{◌≡◌, ◌==◌, ◌<◌, ◌≤◌, ◌
 ghost use Rattle.std.specs.List.{list_all, position_or_len};
 ghost use Rattle.blif_defs.specs.Words.{is_blank, is_sign, ends_with, is_sound, words};
 ghost use Rattle.blif_defs.specs.Lines.{without_return, without_comment, trimmed, stripped};
-ghost use Rattle.blif_read.specs.Reads.{Gives};
+ghost use Rattle.blif_defs.specs.declared.error.BlifError.TheVariants.{NoMemory};
+ghost use Rattle.text_defs.specs.Memory.{Gives};
 ghost use Rattle.blif_read.specs.Views.{texts};
 
-use crate::error::BlifError;
+use blif_defs::BlifError;
 
 fn is_blank(b: u8) -> bool
     ensures { result ≡ is_blank b }
@@ -114,7 +115,7 @@ fn word_len(line: &[u8]) -> usize
 
 /// Appends the words of the line.
 pub(crate) fn push_words<'a>(list: &mut Vec<&'a [u8]>, line: &'a [u8]) -> Result<(), BlifError>
-    ensures { Gives (λ _. texts list.new.items) result (Ok (texts list.old.items ++ words line.now)) }
+    ensures { Gives NoMemory (λ _. texts list.new.items) result (Ok (texts list.old.items ++ words line.now)) }
 {
     let mut rest = line;
     while !rest.is_empty() {

@@ -1,6 +1,9 @@
-ghost use Rattle.std.specs.Prelude.{◌≡◌, ℕ, List};
+ghost use Rattle.std.specs.Prelude.{◌≡◌, ℕ, List, IfOk, IfErr};
+ghost use Rattle.blif_defs.specs.declared.error.BlifError.TheVariants.{NoMemory};
 
+use blif_defs::BlifError;
 use pch_base::Name;
+use std::alloc::Global;
 use std::marker::Model;
 
 /// A list of names, which contracts see as the list of their bytes.
@@ -36,5 +39,16 @@ impl Names {
         ensures { result.now ≡ self.now }
     {
         &self.list
+    }
+}
+
+/// The name with these bytes.
+pub(crate) fn name_of(alloc: Global, bytes: &[u8]) -> Result<Name, BlifError>
+    ensures ok { IfOk result (λ name. name ≡ bytes.now) }
+    ensures err { IfErr result (λ e. e ≡ NoMemory) }
+{
+    match Name::from_bytes(alloc, bytes) {
+        Ok(name) => Ok(name),
+        Err(_) => Err(BlifError::NoMemory),
     }
 }

@@ -1,18 +1,18 @@
 //! Reading a text: its lines are joined, and each joined line is read once.
-ghost use Rattle.std.specs.Prelude.{◌≡◌, ◌≤◌, ◌++◌, ℕ, Bool, List, length, IfOk, IfErr, Ok, Err};
+ghost use Rattle.std.specs.Prelude.{◌≡◌, ◌≤◌, ◌++◌, ℕ, Bool, List, length, IfOk, Ok};
 ghost use Rattle.blif_defs.specs.Drafts.{start};
 ghost use Rattle.blif_defs.specs.Words.{words};
 ghost use Rattle.blif_defs.specs.Lines.{joins, content, without_last};
 ghost use Rattle.blif_defs.specs.Grammar.{statements, with_statements, reading};
-ghost use Rattle.blif_defs.specs.Faults.{Fault};
-ghost use Rattle.blif_defs.specs.Values.{BlifValue, IsBlif};
-ghost use Rattle.blif_defs.specs.Texts.{BlifText, BlifFault};
-ghost use Rattle.blif_read.specs.Reads.{Gives, IsFaultWith};
-ghost use Rattle.blif_read.specs.Views.{texts, blif_of};
+ghost use Rattle.blif_defs.specs.declared.error.BlifError.TheVariants.{NoMemory};
+ghost use Rattle.blif_defs.specs.Values.{IsBlif};
+ghost use Rattle.text_defs.specs.Memory.{OrMemory};
+ghost use Rattle.text_defs.specs.Memory.{Gives};
+ghost use Rattle.blif_read.specs.Views.{texts, blif_of, IsReadFrom};
 ghost use Rattle.blif_read.specs.Readers.{draft_of, IsIndexed};
 
 use crate::blif::Blif;
-use crate::error::BlifError;
+use blif_defs::BlifError;
 use crate::line::{ends_with, len_before, push_words, stripped};
 use crate::reader::Reader;
 use blif_defs::MAX_BYTES;
@@ -20,7 +20,7 @@ use std::alloc::Global;
 
 /// Appends the words of the line, and says whether the line is joined to the next one.
 fn push_line<'a>(list: &mut Vec<&'a [u8]>, line: &'a [u8]) -> Result<bool, BlifError>
-    ensures { Gives {Y = Bool × List (List ℕ)} (λ b. (b, texts list.new.items)) result (Ok (joins line.now, texts list.old.items ++ words (content line.now))) }
+    ensures { Gives {Y = Bool × List (List ℕ)} NoMemory (λ b. (b, texts list.new.items)) result (Ok (joins line.now, texts list.old.items ++ words (content line.now))) }
 {
     let line = stripped(line);
     let joins = ends_with(b'\\', line);
@@ -45,7 +45,7 @@ fn without_last(line: &[u8]) -> &[u8]
 /// What the lines of a text give.
 fn read_lines<'a>(alloc: Global, text: &'a [u8]) -> Result<Reader<'a>, BlifError>
     requires { length text.now ≤ MAX_BYTES }
-    ensures reads { Gives draft_of result (with_statements start (statements text.now)) }
+    ensures reads { Gives NoMemory draft_of result (with_statements start (statements text.now)) }
     ensures indexed { IfOk result IsIndexed }
 {
     let mut reader = Reader::new(alloc)?;
@@ -74,7 +74,7 @@ fn read_lines<'a>(alloc: Global, text: &'a [u8]) -> Result<Reader<'a>, BlifError
 
 /// The value of a text or its first fault, as `reading` computes it.
 fn read_text(alloc: Global, b: &[u8]) -> Result<Blif, BlifError>
-    ensures { Gives blif_of result (reading b.now) }
+    ensures { Gives NoMemory blif_of result (reading b.now) }
 {
     if b.len() > MAX_BYTES {
         return Err(BlifError::TooLong);
@@ -82,17 +82,11 @@ fn read_text(alloc: Global, b: &[u8]) -> Result<Blif, BlifError>
     read_lines(alloc, b)?.finish()
 }
 
-/// The value of a text in BLIF, or its first fault, as `blif_defs` says what a text means.
+/// The value of a text in BLIF, or its first fault, as `blif_defs` says what a text means. Each text
+/// has one value or one fault.
 pub fn read_blif(alloc: Global, b: &[u8]) -> Result<Blif, BlifError>
-    // What is read is the value of the text, and a design within the limits.
-    ensures value { IfOk result (λ m. BlifText b.now (blif_of m)) }
+    ensures answer { OrMemory NoMemory (IsReadFrom b.now) result }
     ensures design { IfOk result (λ m. IsBlif (blif_of m)) }
-    // The fault is the first one.
-    ensures fault { IfErr result (IsFaultWith (BlifFault b.now)) }
-    // Where the text has a value, that is read; where it has a first fault, that is answered.
-    ensures only_value { (m : BlifValue) → BlifText b.now m → Gives blif_of result (Ok m) }
-    ensures only_fault { (fault : Fault) → BlifFault b.now fault → Gives blif_of result (Err fault) }
-    ensures exact { Gives blif_of result (reading b.now) }
 {
     read_text(alloc, b)
 }

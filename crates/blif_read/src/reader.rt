@@ -2,17 +2,18 @@
 ghost use Rattle.std.specs.Prelude.{◌≡◌, ℕ, ◌+◌, ◌<◌, ◌≤◌, List, [], length, drop, slice_index_or, OnOk, IfOk, None, Ok};
 ghost use Rattle.blif_defs.specs.Drafts.{start, closed, signal_count, is_among};
 ghost use Rattle.blif_defs.specs.Grammar.{with_input, with_inputs, with_output, with_outputs, with_cover, with_model, with_names, with_end, with_row_line, with_line, with_words, finished};
-ghost use Rattle.blif_read.specs.Reads.{Gives};
+ghost use Rattle.blif_defs.specs.declared.error.BlifError.TheVariants.{NoMemory};
+ghost use Rattle.text_defs.specs.Memory.{Gives};
 ghost use Rattle.blif_read.specs.Views.{texts, blif_of};
 ghost use Rattle.blif_read.specs.Readers.{draft_of, IsIndexed};
 
 use crate::blif::Blif;
 use crate::cover::{Cover, Covers};
 use crate::cover_row::{push_row, row_parts};
-use crate::error::BlifError;
+use blif_defs::BlifError;
 use crate::kind::{after_end, kind_of};
 use crate::line::are_sound;
-use crate::names::Names;
+use crate::names::{Names, name_of};
 use crate::row::Rows;
 use blif_defs::{LineKind, MAX_PORTS, MAX_SIGNALS};
 use pch_base::Name;
@@ -34,11 +35,11 @@ pub(crate) struct Reader<'a> {
 
 /// The names with these bytes.
 fn names_of(alloc: Global, list: &[&[u8]]) -> Result<Vec<Name>, BlifError>
-    ensures { Gives (λ v. v.items) result (Ok (texts list.now)) }
+    ensures { Gives NoMemory (λ v. v.items) result (Ok (texts list.now)) }
 {
     let mut names = Vec::new(alloc);
     for name in list {
-        names.push(Name::from_bytes(alloc, name)?)?;
+        names.push(name_of(alloc, name)?)?;
     }
     Ok(names)
 }
@@ -46,11 +47,11 @@ fn names_of(alloc: Global, list: &[&[u8]]) -> Result<Vec<Name>, BlifError>
 impl<'a> Reader<'a> {
     /// Before the first line.
     pub(crate) fn new(alloc: Global) -> Result<Reader<'a>, BlifError>
-        ensures reads { Gives draft_of result (Ok start) }
+        ensures reads { Gives NoMemory draft_of result (Ok start) }
         ensures indexed { IfOk result IsIndexed }
     {
         Ok(Reader {
-            model: Name::from_bytes(alloc, &[])?,
+            model: name_of(alloc, &[])?,
             inputs: Vec::new(alloc),
             outputs: Vec::new(alloc),
             covers: Vec::new(alloc),
@@ -64,7 +65,7 @@ impl<'a> Reader<'a> {
     /// The open cover takes no more rows.
     fn close(&mut self) -> Result<(), BlifError>
         requires { IsIndexed self.old }
-        ensures reads { Gives (λ _. draft_of self.new) result (Ok (closed (draft_of self.old))) }
+        ensures reads { Gives NoMemory (λ _. draft_of self.new) result (Ok (closed (draft_of self.old))) }
         ensures indexed { OnOk result (IsIndexed self.new) }
     {
         if let Some(cover) = self.current.take() {
@@ -84,7 +85,7 @@ impl<'a> Reader<'a> {
 
     fn add_input(&mut self, alloc: Global, line: u32, name: &'a [u8]) -> Result<(), BlifError>
         requires { IsIndexed self.old }
-        ensures reads { Gives (λ _. draft_of self.new) result (with_input line (draft_of self.old) name.now) }
+        ensures reads { Gives NoMemory (λ _. draft_of self.new) result (with_input line (draft_of self.old) name.now) }
         ensures indexed { OnOk result (IsIndexed self.new) }
     {
         if self.known.contains(name) {
@@ -94,13 +95,13 @@ impl<'a> Reader<'a> {
             return Err(BlifError::Limit { line });
         }
         self.known.insert(name)?;
-        self.inputs.push(Name::from_bytes(alloc, name)?)?;
+        self.inputs.push(name_of(alloc, name)?)?;
         Ok(())
     }
 
     fn add_inputs(&mut self, alloc: Global, line: u32, names: &[&'a [u8]]) -> Result<(), BlifError>
         requires { IsIndexed self.old }
-        ensures reads { Gives (λ _. draft_of self.new) result (with_inputs line (draft_of self.old) (texts names.now)) }
+        ensures reads { Gives NoMemory (λ _. draft_of self.new) result (with_inputs line (draft_of self.old) (texts names.now)) }
         ensures indexed { OnOk result (IsIndexed self.new) }
     {
         for name in names {
@@ -123,7 +124,7 @@ impl<'a> Reader<'a> {
 
     fn add_output(&mut self, alloc: Global, line: u32, name: &[u8]) -> Result<(), BlifError>
         requires { IsIndexed self.old }
-        ensures reads { Gives (λ _. draft_of self.new) result (with_output line (draft_of self.old) name.now) }
+        ensures reads { Gives NoMemory (λ _. draft_of self.new) result (with_output line (draft_of self.old) name.now) }
         ensures indexed { OnOk result (IsIndexed self.new) }
     {
         if self.has_output(name) {
@@ -132,13 +133,13 @@ impl<'a> Reader<'a> {
         if self.outputs.len() >= MAX_PORTS {
             return Err(BlifError::Limit { line });
         }
-        self.outputs.push(Name::from_bytes(alloc, name)?)?;
+        self.outputs.push(name_of(alloc, name)?)?;
         Ok(())
     }
 
     fn add_outputs(&mut self, alloc: Global, line: u32, names: &[&[u8]]) -> Result<(), BlifError>
         requires { IsIndexed self.old }
-        ensures reads { Gives (λ _. draft_of self.new) result (with_outputs line (draft_of self.old) (texts names.now)) }
+        ensures reads { Gives NoMemory (λ _. draft_of self.new) result (with_outputs line (draft_of self.old) (texts names.now)) }
         ensures indexed { OnOk result (IsIndexed self.new) }
     {
         for name in names {
@@ -157,7 +158,7 @@ impl<'a> Reader<'a> {
     ) -> Result<(), BlifError>
         requires indexed { IsIndexed self.old }
         requires closed { self.old.current ≡ None }
-        ensures reads { Gives (λ _. draft_of self.new) result (with_cover line (draft_of self.old) (texts ins.now) out.now) }
+        ensures reads { Gives NoMemory (λ _. draft_of self.new) result (with_cover line (draft_of self.old) (texts ins.now) out.now) }
         ensures indexed { OnOk result (IsIndexed self.new) }
     {
         if ins.len() > MAX_PORTS {
@@ -171,7 +172,7 @@ impl<'a> Reader<'a> {
         }
         let cover = Cover {
             ins: Names::from_vec(names_of(alloc, ins)?),
-            out: Name::from_bytes(alloc, out)?,
+            out: name_of(alloc, out)?,
             on: true,
             rows: Rows::from_vec(Vec::new(alloc)),
         };
@@ -183,7 +184,7 @@ impl<'a> Reader<'a> {
     fn read_names(&mut self, alloc: Global, line: u32, names: &[&'a [u8]]) -> Result<(), BlifError>
         requires indexed { IsIndexed self.old }
         requires closed { self.old.current ≡ None }
-        ensures reads { Gives (λ _. draft_of self.new) result (with_names line (draft_of self.old) (texts names.now)) }
+        ensures reads { Gives NoMemory (λ _. draft_of self.new) result (with_names line (draft_of self.old) (texts names.now)) }
         ensures indexed { OnOk result (IsIndexed self.new) }
     {
         match names {
@@ -194,15 +195,15 @@ impl<'a> Reader<'a> {
 
     fn read_model(&mut self, alloc: Global, line: u32, names: &[&[u8]]) -> Result<(), BlifError>
         requires { IsIndexed self.old }
-        ensures reads { Gives (λ _. draft_of self.new) result (with_model line (draft_of self.old) (texts names.now)) }
+        ensures reads { Gives NoMemory (λ _. draft_of self.new) result (with_model line (draft_of self.old) (texts names.now)) }
         ensures indexed { OnOk result (IsIndexed self.new) }
     {
         if self.begun {
             return Err(BlifError::Unsupported { line });
         }
         let name = match names {
-            [] => Name::from_bytes(alloc, &[])?,
-            [name] => Name::from_bytes(alloc, name)?,
+            [] => name_of(alloc, &[])?,
+            [name] => name_of(alloc, name)?,
             _ => return Err(BlifError::Syntax { line }),
         };
         self.model = name;
@@ -211,7 +212,7 @@ impl<'a> Reader<'a> {
 
     fn read_end(&mut self, line: u32, names: &[&[u8]]) -> Result<(), BlifError>
         requires { IsIndexed self.old }
-        ensures reads { Gives (λ _. draft_of self.new) result (with_end line (draft_of self.old) (texts names.now)) }
+        ensures reads { Gives NoMemory (λ _. draft_of self.new) result (with_end line (draft_of self.old) (texts names.now)) }
         ensures indexed { OnOk result (IsIndexed self.new) }
     {
         if !names.is_empty() {
@@ -223,7 +224,7 @@ impl<'a> Reader<'a> {
 
     fn read_row(&mut self, alloc: Global, line: u32, row: &[&[u8]]) -> Result<(), BlifError>
         requires { IsIndexed self.old }
-        ensures reads { Gives (λ _. draft_of self.new) result (with_row_line line (draft_of self.old) (draft_of self.old).current (texts row.now)) }
+        ensures reads { Gives NoMemory (λ _. draft_of self.new) result (with_row_line line (draft_of self.old) (draft_of self.old).current (texts row.now)) }
         ensures indexed { OnOk result (IsIndexed self.new) }
     {
         let Some(mut cover) = self.current.take() else {
@@ -245,7 +246,7 @@ impl<'a> Reader<'a> {
     ) -> Result<(), BlifError>
         requires indexed { IsIndexed self.old }
         requires some { 0 < length list.now }
-        ensures reads { Gives (λ _. draft_of self.new) result (with_line kind line (draft_of self.old) (slice_index_or (texts list.now) 0 []) (drop 1 (texts list.now))) }
+        ensures reads { Gives NoMemory (λ _. draft_of self.new) result (with_line kind line (draft_of self.old) (slice_index_or (texts list.now) 0 []) (drop 1 (texts list.now))) }
         ensures indexed { OnOk result (IsIndexed self.new) }
     {
         if kind == LineKind::Row {
@@ -271,7 +272,7 @@ impl<'a> Reader<'a> {
         list: &[&'a [u8]],
     ) -> Result<(), BlifError>
         requires { IsIndexed self.old }
-        ensures reads { Gives (λ _. draft_of self.new) result (with_words line (draft_of self.old) (texts list.now)) }
+        ensures reads { Gives NoMemory (λ _. draft_of self.new) result (with_words line (draft_of self.old) (texts list.now)) }
         ensures indexed { OnOk result (IsIndexed self.new) }
     {
         if list.is_empty() {
@@ -292,7 +293,7 @@ impl<'a> Reader<'a> {
     /// The value of a text, where this is what its lines gave.
     pub(crate) fn finish(mut self) -> Result<Blif, BlifError>
         requires { IsIndexed self }
-        ensures { Gives blif_of result (finished (draft_of self.entry)) }
+        ensures { Gives NoMemory blif_of result (finished (draft_of self.entry)) }
     {
         if self.outputs.is_empty() {
             return Err(BlifError::NoOutputs);

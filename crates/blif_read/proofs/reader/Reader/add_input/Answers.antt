@@ -12,6 +12,6 @@ returns-clause-indexed c =
       known = λ q.
           known_more c.args.self.now.known c.insert.new.self c.args.name c.in_ok-insert.ensures.updates q
           ∙ ap (λ (b : Bool). cond (bytes_eq c.args.name.now q) true b) (c.requires.known q)
-          ∙ is_among_input q c.args.self.now.inputs.items c.push.new.self.items c.args.name.now c.in_ok-from_bytes.field-0 covers c.in_ok-push.ensures.items c.in_ok-from_bytes.ensures;
+          ∙ is_among_input q c.args.self.now.inputs.items c.push.new.self.items c.args.name.now c.in_ok-name_of.field-0 covers c.in_ok-push.ensures.items c.in_ok-name_of.ensures.ok;
       few = few_inputs c.args.self.now.inputs.items c.push.new.self.items _ covers c.signal_count.result _ c.in_ok-push.ensures.items c.signal_count.ensures c.if-signal_count-ge-MAX_SIGNALS.false;
     }

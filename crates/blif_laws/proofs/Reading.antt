@@ -1,20 +1,19 @@
 -- A text has one value or one first fault, and the fault is never want of memory.
-use Rattle.std.proofs.Common.{◌≡◌, ◌≢◌, ℕ, ◌⊎◌, Bool, true, false, cond, List, [], ◌∷◌, length, Option, Some, None, Result, Ok, Err, refl, sym, ap, subst, ◌∙◌}
+use Rattle.std.proofs.Common.{◌≡◌, ◌≢◌, ℕ, Bool, true, false, cond, List, [], ◌∷◌, length, Option, Some, None, Result, Ok, Err, refl, sym, subst, ◌∙◌}
 use Rattle.std.specs.Prelude.{◌==◌, ◌&&◌, nat_lt, nat_le}
 use Rattle.std.specs.List.{list_all}
 use Rattle.blif_defs.specs.declared.error.BlifError.{BlifError}
-use Rattle.blif_defs.specs.declared.error.BlifError.TheVariants.{TooLong, Syntax, Unsupported, Mixed, DoubleDriven, RepeatedOutput, Limit, NoOutputs, NoMemory}
+use Rattle.blif_defs.specs.declared.error.BlifError.TheVariants.{NoMemory}
 use Rattle.blif_defs.specs.declared.kind.LineKind.{LineKind}
 use Rattle.blif_defs.specs.declared.kind.LineKind.TheVariants.{Model, Inputs, Outputs, Names, End, Other, Row}
 use Rattle.blif_defs.specs.declared.mark.TheConstants.{MAX_BYTES, MAX_PORTS, MAX_SIGNALS}
 use Rattle.text_defs.specs.Steps.{◌>>=◌}
 use Rattle.blif_defs.specs.Words.{is_sound}
-use Rattle.blif_defs.specs.Lines.{without_last}
 use Rattle.blif_defs.specs.Values.{CoverValue, BlifValue}
-use Rattle.blif_defs.specs.Drafts.{Draft, start, closed, signals, signal_count, is_among, value_of}
-use Rattle.blif_defs.specs.Rows.{row_parts, row_onto, is_row, agrees, bit_of, with_row}
-use Rattle.blif_defs.specs.Grammar.{Statement, statements, kind_of, with_input, with_inputs, with_output, with_outputs, with_cover, with_model, with_names, with_end, with_row_line, with_line, with_words, after_end, begun_with, with_statements, finished, reading}
-use Rattle.blif_defs.specs.Texts.{BlifText, BlifFault, BlifOf}
+use Rattle.blif_defs.specs.Drafts.{Draft, start, closed, signals, signal_count, is_among}
+use Rattle.blif_defs.specs.Rows.{row_parts, row_onto, is_row, agrees, bit_of}
+use Rattle.blif_defs.specs.Grammar.{Statement, statements, kind_of, with_input, with_inputs, with_output, with_outputs, with_cover, with_model, with_names, with_end, with_row_line, with_line, with_words, after_end, with_statements, finished, reading}
+use Rattle.blif_defs.specs.Texts.{BlifFault, BlifOf}
 use Rattle.blif_laws.proofs.Following.{read_value, value_read, read_fault, fault_read}
 
 abbrev Read : Type 0

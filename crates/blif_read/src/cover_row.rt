@@ -8,8 +8,8 @@ ghost use Rattle.text_defs.specs.Memory.{Gives};
 ghost use Rattle.blif_read.specs.Views.{cover_of, texts, parts_of};
 
 use crate::cover::Cover;
-use blif_defs::BlifError;
 use crate::row::Row;
+use blif_defs::BlifError;
 use std::alloc::Global;
 
 fn is_mark(b: u8) -> bool

@@ -2,8 +2,7 @@
 ghost use Rattle.std.specs.Prelude.{◌≡◌};
 ghost use Rattle.blif_defs.specs.Grammar.{kind_of, after_end};
 
-use blif_defs::BlifError;
-use blif_defs::LineKind;
+use blif_defs::{BlifError, LineKind};
 
 /// What a line with this first word is.
 pub(crate) fn kind_of(word: &[u8]) -> LineKind

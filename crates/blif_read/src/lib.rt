@@ -18,7 +18,6 @@ mod row;
 pub use blif::Blif;
 pub use blif_defs::{BlifError, Mark};
 pub use cover::{Cover, Covers};
-
 pub use names::Names;
 pub use print::print_blif;
 pub use read::read_blif;

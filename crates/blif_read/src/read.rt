@@ -12,10 +12,9 @@ ghost use Rattle.blif_read.specs.Views.{texts, blif_of, IsReadFrom};
 ghost use Rattle.blif_read.specs.Readers.{draft_of, IsIndexed};
 
 use crate::blif::Blif;
-use blif_defs::BlifError;
 use crate::line::{ends_with, len_before, push_words, stripped};
 use crate::reader::Reader;
-use blif_defs::MAX_BYTES;
+use blif_defs::{BlifError, MAX_BYTES};
 use std::alloc::Global;
 
 /// Appends the words of the line, and says whether the line is joined to the next one.

@@ -1,7 +1,7 @@
 -- A trace that refutes a list goes on doing so where derived clauses lose their literals to the sign.
 use Rattle.std.proofs.Common.{◌≡◌, ◌≢◌, ℕ, zero, suc, ◌+◌, ◌-◌, ◌<◌, ◌≤◌, nat_lt, ◌&&◌, ◌⊎◌, inl, inr, Bool, true, false, if◌then◌else◌, List, [], ◌∷◌, length, map, slice_get, take, Option, Some, None, Ok, refl, sym, ◌∙◌, ap, subst, arith}
 use Rattle.std.proofs.lemmas.Bool.{le-ltb, cases_lt}
-use Rattle.clause_defs.specs.Clauses.{Lits, Has, HasClause, IsOrdered}
+use Rattle.clause_defs.specs.Clauses.{Lits, Has, HasClause, IsClause, IsOrdered}
 use Rattle.clause_defs.specs.Traces.{Entry, IsTrace, stated_of, antecedents_of, stated_at, lits_at, antecedents_at, index_at, literals_in, AntecedentsAreEarlier}
 use Rattle.clause_defs.specs.Compaction.{AllStated, has_antecedents, is_derived, any_derived, with_sign, compacted, derived_size, derived_literals}
 use Rattle.clause_defs.specs.TraceClauses.{LitsOf, antecedent_lits, all_given, given_by, computed_size, computed_before}
@@ -251,3 +251,26 @@ compacted_refutes f t v w is all refutes wide =
 pub compacted_same : (f : List Lits) (t : List Entry) (v k : ℕ) → IsTrace t → AllStated t
     → VerdictOf f t v Verdict.Refutes → k < length t → LitsOf (compacted t) k ≡ LitsOf t k
 compacted_same f t v k is all refutes within = u_lits f t (compacted t) v is all refutes.0 (IsCompaction-compacted t) k within
+
+empty_clause : IsClause []
+empty_clause = record { literals = λ l h. absurd h; ordered = tt }
+
+-- the trace with some signs is a trace
+pub IsTrace-compaction : (t u : List Entry) → IsCompaction t u → IsTrace t → IsTrace u
+IsTrace-compaction t u comp is = record {
+  earlier = λ k p i. is.earlier k p (subst (λ ps. Has ps p) (comp.antecedents k) i);
+  clauses = λ k lt. let long = comp.as_long in elim (comp.stated k) [
+    | inl same ↦ subst (λ o. IsClause (literals_in o)) (sym same) (is.clauses k (omega arith))
+    | inr sign ↦ subst (λ o. IsClause (literals_in o)) (sym sign.0) empty_clause
+  ];
+  derived = λ k lt e none. let long = comp.as_long in elim (comp.stated k) [
+    | inl same ↦ is.derived k (omega arith) (sym same ∙ e) (sym (comp.antecedents k) ∙ none)
+    | inr sign ↦ sign.1 (sym (comp.antecedents k) ∙ none)
+  ];
+  low = λ k lt. let long = comp.as_long in let same = comp.indices k in let own = is.low k (omega arith) in omega arith;
+  high = λ k lt. let long = comp.as_long in let same = comp.indices k in let own = is.high k (omega arith) in omega arith;
+  distinct = λ j k below lt e. let long = comp.as_long in is.distinct j k below (omega arith) (sym (comp.indices j) ∙ e ∙ comp.indices k);
+}
+
+pub IsTrace-compacted : (t : List Entry) → IsTrace t → IsTrace (compacted t)
+IsTrace-compacted t is = IsTrace-compaction t (compacted t) (IsCompaction-compacted t) is

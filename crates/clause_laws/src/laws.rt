@@ -84,6 +84,7 @@ pub fn verdict_is_unique()
 /// but the last, where the limit allows as many literals as the derived clauses state. Each clause
 /// stays what it was.
 pub fn compacted_trace_refutes()
+    ensures trace { (t : List Entry) → IsTrace t → IsTrace (compacted t) }
     ensures refutes { (f : List Lits) (t : List Entry) (v w : ℕ) → IsTrace t → AllStated t
         → VerdictOf f t v Verdict.Refutes → derived_literals t ≤ w → VerdictOf f (compacted t) w Verdict.Refutes }
     ensures same { (f : List Lits) (t : List Entry) (v k : ℕ) → IsTrace t → AllStated t

@@ -7,7 +7,8 @@ use Rattle.std.specs.List.{flat_map}
 use Rattle.clause_defs.specs.declared.verdict.TheConstants.{MAX_INDEX}
 use Rattle.clause_defs.specs.Literals.{Literal, IsLiteral}
 use Rattle.clause_defs.specs.Clauses.{Lits, Has, SameSet}
-use Rattle.clause_defs.specs.Traces.{Entry, IsTrace, IsCompactAt, literals_in, index_at}
+use Rattle.clause_defs.specs.Compaction.{AllStated}
+use Rattle.clause_defs.specs.Traces.{Entry, IsTrace, literals_in, index_at}
 use Rattle.text_defs.specs.Tokens.{Token, tokens}
 use Rattle.sat_text_defs.specs.declared.limits.TheConstants.{MAX_TRACE_BYTES}
 use Rattle.sat_text_defs.specs.declared.errors.TraceError.{TraceError}
@@ -53,14 +54,10 @@ AreSpelled t [] (e ∷ es) = ⊥
 AreSpelled t (s ∷ ss) [] = ⊥
 AreSpelled t (s ∷ ss) (e ∷ es) = IsSpelled t s e × AreSpelled t ss es
 
--- no clause has the sign
-abbrev pub HasNoSign : List Entry → Type 0
-HasNoSign t = (k : ℕ) → IsCompactAt t k → ⊥
-
 -- in a text of version v these words are those of the clauses of the trace t, in their order
 pub record SpellsTrace (v : ℕ) (ws : List (List ℕ)) (t : List Entry) : Type 0 where
   pub trace : IsTrace t
-  pub signs : v ≡ 1 → HasNoSign t
+  pub signs : v ≡ 1 → AllStated t
   pub spelled : List Spelled
   pub same_clauses : AreSpelled t spelled t
   pub same_words : ws ≡ flat_map clause_words spelled

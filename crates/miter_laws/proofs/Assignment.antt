@@ -11,19 +11,19 @@ use Rattle.clause_defs.specs.Clauses.{IsAssignment}
 use Rattle.net_defs.specs.Networks.{Node, Network, no_node, node_at, signals}
 use Rattle.net_defs.specs.Evaluation.{node_bit, some_row_hits, hits, bits_at, Settles}
 use Rattle.net_defs.specs.Nets.{row_count}
+use Rattle.fabric_defs.specs.Bits.{IsBits}
 use Rattle.fabric_defs.specs.Numbered.{list_of}
 use Rattle.cell_defs.specs.declared.source.Source.{Source}
 use Rattle.cell_defs.specs.declared.source.Source.TheVariants.{Zero, Pad, Cell}
-use Rattle.cell_defs.specs.Cells.{CellValue, CellsValue, no_cell, cell_at}
+use Rattle.cell_defs.specs.Cells.{CellsValue, cell_at}
 use Rattle.cell_defs.specs.Cones.{in_cone}
 use Rattle.cell_defs.specs.Evaluation.{source_bit, CellBits}
-use Rattle.miter_defs.specs.Equality.{IsBits}
 use Rattle.miter_defs.specs.Numberings.{zero_variable, signal_variable, rows_before, row_variable, cone_before, cone_size, cell_variable, difference_variable, variable_count, source_variable}
 use Rattle.miter_defs.specs.Miters.{row_at, no_output}
 use Rattle.miter_laws.specs.Extensions.{Gives}
 use Rattle.fabric_laws.proofs.NumberedLemmas.{length-list_of}
 use Rattle.miter_laws.proofs.Membership.{Has_place, Each, each_nil, each_cons, each_append, each_map, each_list_of}
-use Rattle.miter_laws.proofs.Places.{at_left, at_right, at_list_of, length-flat_map_by, at_flat_map, kept, length-kept, at_kept, Has-kept}
+use Rattle.miter_laws.proofs.Places.{at_left, at_right, at_list_of, length-flat_map_by, at_flat_map, kept, length-kept, at_kept, each_kept}
 use Rattle.miter_laws.proofs.Truth.{bit, difference}
 
 -- whether each row of the node hits
@@ -44,7 +44,7 @@ differences net l x s b = list_of (length net.outputs) (λ o. difference (net_ou
 
 -- the bits of the cells in the cone
 abbrev cone_bits : CellsValue → List ℕ → List ℕ
-cone_bits l b = kept (λ (cell : CellValue). cell.in_cone) l.cells b
+cone_bits l b = kept l.cone (λ k. get_or b k 0)
 
 -- where the inputs have the bits x, the signals the bits s and the cells the bits b
 pub assignment : Network → CellsValue → List ℕ → List ℕ → List ℕ → List ℕ
@@ -56,7 +56,7 @@ pub record GivesAll (net : Network) (l : CellsValue) (x s b a : List ℕ) : Type
   pub signals : (i : ℕ) → i < signals net → Gives a (signal_variable i) (get_or s i 0)
   pub rows : (v r : ℕ) → v < length net.nodes → r < length (node_at net v).rows
       → Gives a (row_variable net v r) (bit (hits (row_at net v r) (bits_at s (node_at net v).fan_ins)))
-  pub cells : (k : ℕ) → k < length l.cells → in_cone l k ≡ true → Gives a (cell_variable net l k) (get_or b k 0)
+  pub cells : (k : ℕ) → in_cone l k ≡ true → Gives a (cell_variable net l k) (get_or b k 0)
   pub differences : (o : ℕ) → o < length net.outputs
       → Gives a (difference_variable net l o) (difference (net_output net s o) (pad_output l x b o))
 
@@ -70,8 +70,8 @@ length-rows net s =
     length-flat_map_by (row_bits s) (λ (node : Node). length node.rows) (λ node. length-map node.rows _) net.nodes
 
 -- and one for each cell of the cone
-length-cone : (l : CellsValue) (b : List ℕ) → length b ≡ length l.cells → length (cone_bits l b) ≡ cone_size l
-length-cone l b e = length-kept (λ (cell : CellValue). cell.in_cone) l.cells b e
+length-cone : (l : CellsValue) (b : List ℕ) → length (cone_bits l b) ≡ cone_size l
+length-cone l b = length-kept l.cone (λ k. get_or b k 0)
 
 -- place i behind zero and the signals
 behind_signals : (net : Network) (s rest : List ℕ) (v i y : ℕ) → length s ≡ signals net → v ≡ 2 + signals net + i
@@ -82,15 +82,15 @@ behind_signals net s rest v i y e at h =
     (at_right s rest i (length s + i) y refl h))
 
 -- each variable has its bit at its place
-pub gives_all : (net : Network) (l : CellsValue) (x s b : List ℕ) → length s ≡ signals net → length b ≡ length l.cells
+pub gives_all : (net : Network) (l : CellsValue) (x s b : List ℕ) → length s ≡ signals net
     → GivesAll net l x s b (assignment net l x s b)
 unfolding assignment
-gives_all net l x s b e f =
+gives_all net l x s b e =
     let rows : List ℕ = flat_map (row_bits s) net.nodes in
     let cells : List ℕ = cone_bits l b in
     let last : List ℕ = differences net l x s b in
     let row_total : length rows ≡ row_count net = length-rows net s in
-    let cell_total : length cells ≡ cone_size l = length-cone l b f in
+    let cell_total : length cells ≡ cone_size l = length-cone l b in
     record {
       zero = refl;
       signals = λ i lt. gives_at (0 ∷ (s ++ (rows ++ (cells ++ last)))) (signal_variable i) (1 + i) (get_or s i 0) (omega arith)
@@ -101,10 +101,10 @@ gives_all net l x s b e f =
           (at_flat_map (row_bits s) (λ (node : Node). length node.rows) (λ node. length-map node.rows _)
           net.nodes v r (rows_before net v + r) no_node _ lt refl
           (slice_get-map _ (node_at net v).rows r ∙ ap (option_map _) (slice_get-get_or (node_at net v).rows r [] below))));
-      cells = λ k lt member. behind_signals net s (rows ++ (cells ++ last)) (cell_variable net l k) (row_count net + cone_before l k) _ e (omega arith)
+      cells = λ k member. behind_signals net s (rows ++ (cells ++ last)) (cell_variable net l k) (row_count net + cone_before l k) _ e (omega arith)
           (at_right rows (cells ++ last) (cone_before l k) (row_count net + cone_before l k) _ (omega arith)
           (at_left cells last (cone_before l k) _
-          (at_kept (λ (cell : CellValue). cell.in_cone) l.cells b k (cone_before l k) no_cell f lt member refl)));
+          (at_kept l.cone (λ i. get_or b i 0) k (cone_before l k) member refl)));
       differences = λ o lt. behind_signals net s (rows ++ (cells ++ last)) (difference_variable net l o) (row_count net + (cone_size l + o)) _ e (omega arith)
           (at_right rows (cells ++ last) (cone_size l + o) (row_count net + (cone_size l + o)) _ (omega arith)
           (at_right cells last o (cone_size l + o) _ (omega arith)
@@ -200,14 +200,14 @@ is_assignment net l x s b bits settles cell_bits =
             length-append cells last,
             settles.all_signals,
             length-rows net s,
-            length-cone l b cell_bits.count,
+            length-cone l b,
             length-list_of (length net.outputs) (λ o. difference (net_output net s o) (pad_output l x b o)),
           );
       bits = each_cons Small 0 (s ++ (rows ++ (cells ++ last))) (omega arith)
           (each_append Small s (rows ++ (cells ++ last)) (signals-bits net x s bits settles)
           (each_append Small rows (cells ++ last) (rows-bits s net.nodes)
           (each_append Small cells last
-          (λ y has. cells-bits l x b cell_bits y (Has-kept (λ (cell : CellValue). cell.in_cone) l.cells b y has))
+          (each_kept Small l.cone (λ k. get_or b k 0) (λ k. bit-within b k (cells-bits l x b cell_bits)))
           (each_list_of Small (length net.outputs) (λ o. difference (net_output net s o) (pad_output l x b o))
           (λ o _. difference-le (net_output net s o) (pad_output l x b o))))));
     }
@@ -217,7 +217,7 @@ is_assignment net l x s b bits settles cell_bits =
 -- a source has the bit of its variable, if it is no cell outside the cone
 pub gives_source : (net : Network) (l : CellsValue) (x s b a : List ℕ) → GivesAll net l x s b a → Settles net x s
     → IsBits (length net.inputs) x → (source : Source)
-    → ((k : ℕ) → source ≡ Cell k → (k < length l.cells) × (in_cone l k ≡ true))
+    → ((k : ℕ) → source ≡ Cell k → in_cone l k ≡ true)
     → Gives a (source_variable net l source) (source_bit x b source)
 gives_source net l x s b a g settles bits Zero h = g.zero
 gives_source net l x s b a g settles bits (Pad p) h =
@@ -227,7 +227,7 @@ gives_source net l x s b a g settles bits (Pad p) h =
     ∙ ap Some (sym (get_or-take (length net.inputs) s p 0 here) ∙ ap (λ ys. get_or ys p 0) settles.inputs)))
     (λ past. rw (le-ltb p (length net.inputs) past) (g.zero ∙ ap Some (sym (get_or_past x p 0 (omega (arith, bits.count))))))
     (cases_lt p (length net.inputs))
-gives_source net l x s b a g settles bits (Cell k) h = g.cells k (h k refl).0 (h k refl).1
+gives_source net l x s b a g settles bits (Cell k) h = g.cells k (h k refl)
 
 -- where the inputs and the cells have bits, so has each source
 pub source_bit-le : (x b : List ℕ) → Each (λ y. y ≤ 1) x → Each (λ y. y ≤ 1) b → (source : Source) → source_bit x b source ≤ 1

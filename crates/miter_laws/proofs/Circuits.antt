@@ -1,5 +1,5 @@
 -- Every clause of both circuits is satisfied by an assignment that gives all variables their bits.
-use Rattle.std.proofs.Common.{◌≡◌, ℕ, ◌+◌, ◌^◌, ◌<◌, ◌≤◌, inl, inr, Bool, true, false, not, if◌then◌else◌, List, [], ◌∷◌, ◌++◌, length, map, get_or, Some, All, refl, ap, subst, sym, ◌∙◌, arith}
+use Rattle.std.proofs.Common.{◌≡◌, ℕ, ◌+◌, ◌^◌, ◌<◌, ◌≤◌, inl, inr, Bool, true, false, not, if◌then◌else◌, List, [], ◌∷◌, ◌++◌, length, map, get_or, Some, refl, ap, subst, sym, ◌∙◌, arith}
 use Rattle.std.specs.List.{list_any}
 use Rattle.std.proofs.lemmas.Bool.{cases_Bool, both_ways}
 use Rattle.std.proofs.lemmas.List.{length-map, get_or-map, get_or_default}
@@ -9,13 +9,13 @@ use Rattle.clause_laws.proofs.ClauseOf.{SameSet-clause_of}
 use Rattle.net_defs.specs.Networks.{Network, no_node, node_at, signals}
 use Rattle.net_defs.specs.Evaluation.{some_row_hits, hits, bits_at, Settles}
 use Rattle.net_defs.specs.Nets.{IsNet}
+use Rattle.fabric_defs.specs.Bits.{IsBits}
 use Rattle.fabric_defs.specs.Numbered.{list_of, joined}
 use Rattle.fabric_defs.specs.Geometries.{table_bits}
 use Rattle.cell_defs.specs.declared.source.Source.TheVariants.{Zero, Cell}
-use Rattle.cell_defs.specs.Cells.{CellsValue, cell_at, IsSourceBelow, AreCells}
+use Rattle.cell_defs.specs.Cells.{CellsValue, cell_at, AreCells}
 use Rattle.cell_defs.specs.Cones.{in_cone, IsClosed}
 use Rattle.cell_defs.specs.Evaluation.{source_bit, CellBits}
-use Rattle.miter_defs.specs.Equality.{IsBits}
 use Rattle.miter_defs.specs.Numberings.{zero_variable, signal_variable, node_variable, row_variable, cell_variable, difference_variable, source_variable}
 use Rattle.miter_defs.specs.Miters.{negative, row_literals, hit_clauses, cover_clauses, row_at, node_clauses, table_clause, cell_clauses, no_output, output_clauses, circuit_clauses}
 use Rattle.miter_laws.proofs.Membership.{place_has, All-Has, Each, each_cons, each_append, each_map, each_list_of, each_joined}
@@ -86,15 +86,13 @@ node_clauses-hold net l x s b a h v lt =
 -- ---- the cells
 
 -- a cell to which a pin of the cone listens is in the cone
-pin-in_cone : (net : Network) (l : CellsValue) (x s b a : List ℕ) → Extended net l x s b a → (k : ℕ) → k < length l.cells
+pin-in_cone : (l : CellsValue) → IsClosed l (in_cone l) → (k : ℕ) → k < length l.cells
     → in_cone l k ≡ true → (j : ℕ) → j < length (cell_at l k).pins → (m : ℕ) → get_or (cell_at l k).pins j Zero ≡ Cell m
-    → (m < length l.cells) × (in_cone l m ≡ true)
-pin-in_cone net l x s b a h k lt member j below m e =
-    let c = h.cells in
+    → in_cone l m ≡ true
+pin-in_cone l closed k lt member j below m e =
     let has : Has (cell_at l k).pins (Cell m) =
     subst (Has (cell_at l k).pins) e (place_has (cell_at l k).pins j Zero below) in
-    let lower : m < k = All-Has (IsSourceBelow l.geometry k) (cell_at l k).pins (Cell m) (c.cells k (omega (arith, c.count))).sources has in
-    (omega arith, h.closed.pins k m lt member has)
+    closed.pins k m lt member has
 
 -- where the bits of its pins are bits, each of the clauses is satisfied
 table_clauses-hold : (net : Network) (l : CellsValue) (x s b a : List ℕ) → Extended net l x s b a → (k : ℕ) → k < length l.cells
@@ -109,9 +107,9 @@ table_clauses-hold net l x s b a h k lt member size e =
     (each_map (λ y. y ≤ 1) (source_bit x b) pins
     (λ source _. source_bit-le x b h.bits.bits (cells-bits l x b h.cell_bits) source))
     (λ j less. gives_source net l x s b a h.gives h.settles h.bits (get_or pins j Zero)
-    (λ m is. pin-in_cone net l x s b a h k lt member j less m is)
+    (pin-in_cone l h.closed k lt member j less)
     ∙ ap Some (sym (get_or-map (source_bit x b) pins j Zero 0 less)))
-    (h.gives.cells k lt member ∙ ap Some (h.cell_bits.each k lt))
+    (h.gives.cells k member ∙ ap Some (h.cell_bits.each k lt))
     (omega arith))
 
 -- the clauses of a cell, of which there are none outside the cone
@@ -121,20 +119,18 @@ cell_clauses-hold net l x s b a h k lt c has =
     let cs = h.cells in
     elim (cases_Bool (in_cone l k)) [
       | inl member ↦ table_clauses-hold net l x s b a h k lt member (table_bits l.geometry)
-          (ap (λ n. 2 ^ n) (sym (cs.cells k (omega (arith, cs.count))).pins)) c (rw member at has)
+          (ap (λ n. 2 ^ n) (sym (cs.each k (omega (arith, cs.count))).pins)) c (rw member at has)
       | inr outside ↦ absurd (rw outside at has)
     ]
 
 -- ---- the outputs
 
 -- a cell to which an output pad listens is in the cone
-output-in_cone : (l : CellsValue) → AreCells l → IsClosed l (in_cone l) → (o : ℕ) → o < length l.outputs → (m : ℕ)
-    → get_or l.outputs o Zero ≡ Cell m → (m < length l.cells) × (in_cone l m ≡ true)
-output-in_cone l cells closed o lt m e =
+output-in_cone : (l : CellsValue) → IsClosed l (in_cone l) → (o : ℕ) → o < length l.outputs → (m : ℕ)
+    → get_or l.outputs o Zero ≡ Cell m → in_cone l m ≡ true
+output-in_cone l closed o lt m e =
     let has : Has l.outputs (Cell m) = subst (Has l.outputs) e (place_has l.outputs o Zero lt) in
-    let below = All-Has (IsSourceBelow l.geometry (length l.cells)) l.outputs (Cell m)
-    (subst (λ n. All (IsSourceBelow l.geometry n) l.outputs) (sym cells.count) cells.outputs) has in
-    (below, closed.outputs m has)
+    closed.outputs m has
 
 -- the clauses of an output
 output_clauses-hold : (net : Network) (l : CellsValue) (x s b a : List ℕ) → Extended net l x s b a → (o : ℕ) → o < length net.outputs
@@ -150,7 +146,7 @@ output_clauses-hold net l x s b a h o lt =
     (h.gives.differences o lt)
     (h.gives.signals signal below)
     (gives_source net l x s b a h.gives h.settles h.bits (get_or l.outputs o Zero)
-    (output-in_cone l h.cells h.closed o (let fits = h.outputs in omega (arith, cs.pads))))
+    (output-in_cone l h.closed o (let fits = h.outputs in omega (arith, cs.pads))))
     (signal-within net x s h.bits h.settles signal below)
     (source_bit-le x b h.bits.bits (cells-bits l x b h.cell_bits) (get_or l.outputs o Zero))
 

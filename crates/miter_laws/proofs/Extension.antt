@@ -7,16 +7,17 @@ use Rattle.net_defs.specs.Networks.{Output, Network}
 use Rattle.net_defs.specs.Evaluation.{bits_at, output_signals, Settles}
 use Rattle.net_defs.specs.Nets.{IsNet}
 use Rattle.net_defs.proofs.AssignmentLemmas.{assignment_exists, assignment_is_unique}
+use Rattle.fabric_defs.specs.Bits.{IsBits}
 use Rattle.fabric_defs.specs.Geometries.{GeometryValue}
 use Rattle.fabric_defs.specs.Configurations.{ConfigValue, IsConfig}
 use Rattle.cell_defs.specs.declared.source.Source.TheVariants.{Zero}
 use Rattle.cell_defs.specs.Cells.{CellsValue, AreCells}
 use Rattle.cell_defs.specs.Cones.{in_cone, IsClosed}
-use Rattle.cell_defs.specs.Sources.{AreCellsOf}
+use Rattle.cell_defs.specs.Sources.{AreSourcesOf}
 use Rattle.cell_defs.specs.Evaluation.{source_bit, CellBits, output_bits}
 use Rattle.cell_laws.proofs.CellEquations.{bits-exist, bits-unique}
-use Rattle.cell_laws.proofs.CellsLemmas.{cells_of_config, cone-outputs}
-use Rattle.miter_defs.specs.Equality.{IsBits, Equal}
+use Rattle.cell_laws.proofs.CellsLemmas.{cells_of_config, cells-outputs}
+use Rattle.miter_defs.specs.Equality.{FitsPads, Equal}
 use Rattle.miter_defs.specs.Numberings.{variable_count, difference_variable}
 use Rattle.miter_defs.specs.Miters.{positive, no_output, circuit_clauses, some_difference, Miter}
 use Rattle.miter_laws.specs.Extensions.{OutputsDiffer, Extends}
@@ -91,7 +92,7 @@ extended net l x s b n cells closed fits bits settles cell_bits = record {
   bits = bits;
   settles = settles;
   cell_bits = cell_bits;
-  gives = gives_all net l x s b settles.all_signals cell_bits.count;
+  gives = gives_all net l x s b settles.all_signals;
 }
 
 -- so it extends the input
@@ -141,21 +142,18 @@ same_or_not (x ∷ xs) (y ∷ ys) =
     ]
 
 -- an input where outputs differ would satisfy the miter
-pub equal-from_unsat : (net : Network) (k : ConfigValue) (l : CellsValue) → IsNet net → IsConfig k → AreCellsOf k l
-    → length net.inputs ≤ k.geometry.input_pads → length net.outputs ≤ k.geometry.output_pads
+pub equal-from_unsat : (net : Network) (k : ConfigValue) (l : CellsValue) → IsNet net → IsConfig k → AreSourcesOf k l
+    → IsClosed l (in_cone l) → FitsPads net k.geometry
     → Unsat (variable_count net l) (Miter net l).clauses → Equal net k
-equal-from_unsat net k l n config of inputs outputs unsat = record {
-  inputs = inputs;
-  outputs = outputs;
+equal-from_unsat net k l n config of closed pads unsat = record {
+  fits = pads;
   same = λ x y z bits spec fabric.
-      let cells : AreCells l = cells_of_config k l config of.sources in
+      let cells : AreCells l = cells_of_config k l config of in
       let fits : length net.outputs ≤ l.geometry.output_pads =
-      omega (arith, ap (λ (g : GeometryValue). g.output_pads) of.sources.geometry) in
+      omega (arith, pads.outputs, ap (λ (g : GeometryValue). g.output_pads) of.geometry) in
       let b = bits-exist l x cells in
-      let bit_each = b.1 in
-      let pads : output_bits l x b.0 ≡ z =
-      cone-outputs k l x b.0 fabric.0 config of fabric.1 (λ m lt member. bit_each.each m lt) ∙ sym fabric.2 in
-      let extension = input_extends net l x n cells of.cone.closed fits bits in
+      let pads : output_bits l x b.0 ≡ z = cells-outputs k l x b.0 fabric.0 config of fabric.1 b.1 ∙ sym fabric.2 in
+      let extension = input_extends net l x n cells closed fits bits in
       let extends_x = extension.1 in
       elim (same_or_not (take (length net.outputs) (output_bits l x b.0)) y) [
         | inl same ↦ ap (take (length net.outputs)) (sym pads) ∙ same

@@ -1,11 +1,10 @@
 -- What stands at a place of a list that is made of others.
-use Rattle.std.proofs.Common.{◌≡◌, ℕ, zero, suc, ◌+◌, ◌<◌, inl, inr, Bool, true, false, cond, if◌then◌else◌, List, [], ◌∷◌, ◌++◌, length, take, get_or, slice_get, Some, sum_by, count_by, flat_map, refl, ap, ◌∙◌, arith, length-append}
+use Rattle.std.proofs.Common.{◌≡◌, ℕ, zero, suc, ◌+◌, ◌<◌, Bool, true, false, cond, List, [], ◌∷◌, ◌++◌, length, take, get_or, slice_get, Some, sum_by, count_by, flat_map, refl, ap, ◌∙◌, arith, length-append}
 use Rattle.std.proofs.lemmas.List.Sums.{sum_by-cons}
 use Rattle.std.proofs.lemmas.Option.{slice_get-get_or}
-use Rattle.std.proofs.lemmas.Bool.{cases_Bool}
-use Rattle.clause_defs.specs.Clauses.{Has}
 use Rattle.fabric_defs.specs.Numbered.{list_of}
 use Rattle.fabric_laws.proofs.NumberedLemmas.{length-list_of, get_or-list_of}
+use Rattle.miter_laws.proofs.Membership.{Each, each_nil, each_cons}
 
 -- a place of the first list
 pub at_left : {X : Type 0} (xs ys : List X) (i : ℕ) (x : X) → slice_get xs i ≡ Some x → slice_get (xs ++ ys) i ≡ Some x
@@ -46,68 +45,42 @@ at_flat_map f g same (x ∷ xs) (suc v) r m d a lt e h =
     (omega (arith, e, same x, sum_by-cons g x (take v xs)))
     (at_flat_map f g same xs v r (sum_by g (take v xs) + r) d a (omega arith) refl h)
 
--- the bits of those elements that pass the test
-pub kept : {X : Type 0} → (X → Bool) → List X → List ℕ → List ℕ
-kept p [] bs = []
-kept p (x ∷ xs) [] = []
-kept p (x ∷ xs) (b ∷ bs) = if p x then b ∷ kept p xs bs else kept p xs bs
+-- the values of a function at the marked places, in their order
+abbrev pub kept : List Bool → (ℕ → ℕ) → List ℕ
+kept [] f = []
+kept (true ∷ marks) f = f 0 ∷ kept marks (λ i. f (suc i))
+kept (false ∷ marks) f = kept marks (λ i. f (suc i))
 
--- how many an element counts for
-abbrev ones : {X : Type 0} → (X → Bool) → X → ℕ
-ones p x = cond (p x) 1 0
+-- how many places are marked
+abbrev pub marked : List Bool → ℕ
+marked marks = count_by (λ (mark : Bool). mark) marks
 
--- an element that passes counts
-kept_yes : {X : Type 0} (p : X → Bool) (x : X) (xs : List X) (b : ℕ) (bs : List ℕ) → p x ≡ true
-    → length (kept p (x ∷ xs) (b ∷ bs)) ≡ length (kept p xs bs) + 1
-unfolding kept
-kept_yes p x xs b bs t = rw t (omega arith)
+-- how many the first place counts for
+abbrev ones : Bool → ℕ
+ones mark = cond mark 1 0
 
--- another one does not
-kept_no : {X : Type 0} (p : X → Bool) (x : X) (xs : List X) (b : ℕ) (bs : List ℕ) → p x ≡ false
-    → length (kept p (x ∷ xs) (b ∷ bs)) ≡ length (kept p xs bs)
-unfolding kept
-kept_no p x xs b bs f = rw f refl
+-- there are as many values as marked places
+pub length-kept : (marks : List Bool) (f : ℕ → ℕ) → length (kept marks f) ≡ marked marks
+length-kept [] f = refl
+length-kept (true ∷ marks) f = omega (arith, length-kept marks (λ i. f (suc i)), sum_by-cons ones true marks)
+length-kept (false ∷ marks) f = omega (arith, length-kept marks (λ i. f (suc i)), sum_by-cons ones false marks)
 
--- there are as many bits as elements that pass
-pub length-kept : {X : Type 0} (p : X → Bool) (xs : List X) (bs : List ℕ) → length bs ≡ length xs
-    → length (kept p xs bs) ≡ count_by p xs
-unfolding kept
-length-kept p [] bs e = refl
-length-kept p (x ∷ xs) [] e = absurd (omega arith)
-length-kept p (x ∷ xs) (b ∷ bs) e =
-    let rest : length (kept p xs bs) ≡ count_by p xs = length-kept p xs bs (omega arith) in
-    elim (cases_Bool (p x)) [
-      | inl t ↦ (let one : ones p x ≡ 1 = rw t refl in kept_yes p x xs b bs t ∙ omega (arith, sum_by-cons (ones p) x xs))
-      | inr f ↦ (let none : ones p x ≡ 0 = rw f refl in kept_no p x xs b bs f ∙ omega (arith, sum_by-cons (ones p) x xs))
-    ]
+-- the value at a marked place stands behind those at the marked places before
+pub at_kept : (marks : List Bool) (f : ℕ → ℕ) (k m : ℕ) → get_or marks k false ≡ true → m ≡ marked (take k marks)
+    → slice_get (kept marks f) m ≡ Some (f k)
+at_kept [] f k m is at = cc
+at_kept (true ∷ marks) f zero m is at = ap (slice_get (kept (true ∷ marks) f)) at
+at_kept (false ∷ marks) f zero m is at = cc
+at_kept (true ∷ marks) f (suc k) m is at =
+    let place : m ≡ suc (marked (take k marks)) = omega (arith, at, sum_by-cons ones true (take k marks)) in
+    ap (slice_get (kept (true ∷ marks) f)) place ∙ at_kept marks (λ i. f (suc i)) k (marked (take k marks)) is refl
+at_kept (false ∷ marks) f (suc k) m is at =
+    let place : m ≡ marked (take k marks) = omega (arith, at, sum_by-cons ones false (take k marks)) in
+    at_kept marks (λ i. f (suc i)) k m is place
 
--- the bit of an element that passes stands behind those of the elements before that pass
-pub at_kept : {X : Type 0} (p : X → Bool) (xs : List X) (bs : List ℕ) (k m : ℕ) (d : X) → length bs ≡ length xs → k < length xs
-    → p (get_or xs k d) ≡ true → m ≡ count_by p (take k xs) → slice_get (kept p xs bs) m ≡ Some (get_or bs k 0)
-unfolding kept
-at_kept p [] bs k m d e lt passes at = absurd (omega arith)
-at_kept p (x ∷ xs) [] k m d e lt passes at = absurd (omega arith)
-at_kept p (x ∷ xs) (b ∷ bs) zero m d e lt passes at = rw passes (ap (slice_get (b ∷ kept p xs bs)) at)
-at_kept p (x ∷ xs) (b ∷ bs) (suc k) m d e lt passes at =
-    let before : ℕ = count_by p (take k xs) in
-    let rest : slice_get (kept p xs bs) before ≡ Some (get_or bs k 0) =
-    at_kept p xs bs k before d (omega arith) (omega arith) passes refl in
-    elim (cases_Bool (p x)) [
-      | inl t ↦ (let one : ones p x ≡ 1 = rw t refl in
-          let place : m ≡ suc before = omega (arith, at, sum_by-cons (ones p) x (take k xs)) in
-          rw t (ap (slice_get (b ∷ kept p xs bs)) place ∙ rest))
-      | inr f ↦ (let none : ones p x ≡ 0 = rw f refl in
-          let place : m ≡ before = omega (arith, at, sum_by-cons (ones p) x (take k xs)) in
-          rw f (ap (slice_get (kept p xs bs)) place ∙ rest))
-    ]
-
--- no other bits are there
-pub Has-kept : {X : Type 0} (p : X → Bool) (xs : List X) (bs : List ℕ) (b : ℕ) → Has (kept p xs bs) b → Has bs b
-unfolding kept
-Has-kept p [] bs b h = absurd h
-Has-kept p (x ∷ xs) [] b h = absurd h
-Has-kept p (x ∷ xs) (c ∷ bs) b h =
-    elim (cases_Bool (p x)) [
-      | inl t ↦ (elim (rw t at h) [ inl e ↦ inl e | inr k ↦ inr (Has-kept p xs bs b k) ])
-      | inr f ↦ inr (Has-kept p xs bs b (rw f at h))
-    ]
+-- what holds of the function's values holds of those that are kept
+pub each_kept : (P : ℕ → Type 0) (marks : List Bool) (f : ℕ → ℕ) → ((i : ℕ) → P (f i)) → Each P (kept marks f)
+each_kept P [] f h = each_nil P
+each_kept P (true ∷ marks) f h =
+    each_cons P (f 0) (kept marks (λ i. f (suc i))) (h 0) (each_kept P marks (λ i. f (suc i)) (λ i. h (suc i)))
+each_kept P (false ∷ marks) f h = each_kept P marks (λ i. f (suc i)) (λ i. h (suc i))

@@ -1,5 +1,5 @@
 -- The variables of the miter's clauses are those of its numbering.
-use Rattle.std.proofs.Common.{ℕ, ◌+◌, ◌*◌, ◌<◌, ◌≤◌, ◌==◌, inl, inr, ⊎_elim, Bool, not, List, [], ◌∷◌, ◌++◌, length, map, get_or, sum_by, refl, arith}
+use Rattle.std.proofs.Common.{◌≡◌, ℕ, ◌+◌, ◌*◌, ◌<◌, ◌≤◌, ◌==◌, inl, inr, ⊎_elim, Bool, not, List, [], ◌∷◌, ◌++◌, length, map, get_or, sum_by, refl, arith}
 use Rattle.std.specs.Int.{bit_at}
 use Rattle.std.proofs.Math.Nat.{mul-le-mul}
 use Rattle.std.proofs.lemmas.Bool.{cases_Bool, cases_lt, lt-ltb, le-ltb}
@@ -13,10 +13,10 @@ use Rattle.clause_laws.proofs.ClauseOf.{IsOrdered-clause_of, SameSet-clause_of}
 use Rattle.net_defs.specs.Networks.{Node, Network, no_node, node_at, signals}
 use Rattle.net_defs.specs.Nets.{row_count, rows_size, IsNet}
 use Rattle.fabric_defs.specs.Numbered.{list_of, joined}
-use Rattle.fabric_defs.specs.Geometries.{table_bits}
+use Rattle.fabric_defs.specs.Geometries.{IsGeometry, cell_count, table_bits}
 use Rattle.cell_defs.specs.declared.source.Source.{Source}
 use Rattle.cell_defs.specs.declared.source.Source.TheVariants.{Zero as NoSource, Pad, Cell}
-use Rattle.cell_defs.specs.Cells.{CellValue, CellsValue, cell_at, AreCells}
+use Rattle.cell_defs.specs.Cells.{CellsValue, cell_at}
 use Rattle.cell_defs.specs.Cones.{in_cone}
 use Rattle.miter_defs.specs.Numberings.{zero_variable, signal_variable, node_variable, rows_before, row_variable, cone_before, cone_size, cell_variable, difference_variable, variable_count, source_variable}
 use Rattle.miter_defs.specs.Miters.{literal, positive, negative, mark_literals, row_literals, hit_clauses, cover_clauses, row_at, node_clauses, table_clause, cell_clauses, difference_clauses, no_output, output_clauses, circuit_clauses, some_difference, Miter}
@@ -105,7 +105,7 @@ row-range net l v r lt below =
 -- a cell outside the cone has a number too: that of the next cell, or of the first difference
 cell-range : (net : Network) (l : CellsValue) (k : ℕ) → 1 ≤ length net.outputs → IsVariable (variable_count net l) (cell_variable net l k)
 cell-range net l k some =
-    let within : cone_before l k ≤ cone_size l = sum_by-take-le _ l.cells k in
+    let within : cone_before l k ≤ cone_size l = sum_by-take-le _ l.cone k in
     (omega arith, omega arith)
 
 -- so has a source
@@ -221,20 +221,21 @@ rows_size-ge (row ∷ rows) =
     omega (arith, sum_by-cons (λ (r : List Mark). length r + 2) row rows)
 
 -- there are no more variables than a clause may have
-pub variable_count-le : (net : Network) (l : CellsValue) → IsNet net → AreCells l → variable_count net l ≤ MAX_VARIABLE
-variable_count-le net l n cells =
-    let g = cells.geometry in
+pub variable_count-le : (net : Network) (l : CellsValue) → IsNet net → IsGeometry l.geometry
+    → length l.cone ≡ cell_count l.geometry → variable_count net l ≤ MAX_VARIABLE
+variable_count-le net l n g count =
     let rows : row_count net ≤ sum_by (λ (node : Node). rows_size node.rows) net.nodes =
     sum_by-le-sum_by (λ (node : Node). length node.rows) (λ node. rows_size node.rows) net.nodes (λ node. rows_size-ge node.rows) in
-    let cone : cone_size l ≤ length l.cells = count_by-le-length (λ (cell : CellValue). cell.in_cone) l.cells in
+    let cone : cone_size l ≤ length l.cone = count_by-le-length (λ (inside : Bool). inside) l.cone in
     let most : l.geometry.columns * l.geometry.rows ≤ 64 * 64 = mul-le-mul g.columns g.rows in
-    omega (arith, n.rows_within, n.signals_within, n.outputs_within, cells.count)
+    omega (arith, n.rows_within, n.signals_within, n.outputs_within)
 
 -- so each clause of the miter is a clause
-pub clauses-IsClause : (net : Network) (l : CellsValue) → IsNet net → AreCells l → Each IsClause (Miter net l).clauses
-clauses-IsClause net l n cells c has = record {
+pub clauses-IsClause : (net : Network) (l : CellsValue) → IsNet net → IsGeometry l.geometry
+    → length l.cone ≡ cell_count l.geometry → Each IsClause (Miter net l).clauses
+clauses-IsClause net l n g count c has = record {
   literals = λ m in_c. let within = clauses-range net l n c has m in_c in
-      let most = variable_count-le net l n cells in
+      let most = variable_count-le net l n g count in
       (within.0, omega arith);
   ordered = each_map IsOrdered clause_of (circuit_clauses net l ++ some_difference net l ∷ []) (λ d _. IsOrdered-clause_of d) c has;
 }

@@ -14,14 +14,14 @@ Gives a variable b = slice_get a (variable - 1) ≡ Some b
 
 -- where the inputs and the input pads have the bits x, the network's outputs and the first output pads differ
 abbrev pub OutputsDiffer : Network → CellsValue → List ℕ → Type 0
-OutputsDiffer net l x =
-    (y : List ℕ) × (bits : List ℕ) × SpecOut net x y × CellBits l x bits
-    × (take (length net.outputs) (output_bits l x bits) ≢ y)
+OutputsDiffer net cells x =
+    (y : List ℕ) × (bits : List ℕ) × SpecOut net x y × CellBits cells x bits
+    × (take (length net.outputs) (output_bits cells x bits) ≢ y)
 
 -- The inputs have the bits x, every clause of the miter but the last is satisfied, and where outputs differ
 -- the last one is too.
-pub record Extends (net : Network) (l : CellsValue) (x a : List ℕ) : Type 0 where
-  pub assignment : IsAssignment (variable_count net l) a
+pub record Extends (net : Network) (cells : CellsValue) (x a : List ℕ) : Type 0 where
+  pub assignment : IsAssignment (variable_count net cells) a
   pub inputs : (i : ℕ) → i < length net.inputs → Gives a (signal_variable i) (slice_index x i)
-  pub circuits : (c : Lits) → Has (map clause_of (circuit_clauses net l)) c → Satisfies a c
-  pub difference : OutputsDiffer net l x → Satisfies a (clause_of (some_difference net l))
+  pub circuits : (c : Lits) → Has (map clause_of (circuit_clauses net cells)) c → Satisfies a c
+  pub difference : OutputsDiffer net cells x → Satisfies a (clause_of (some_difference net cells))

@@ -1,5 +1,5 @@
--- The cells that matter to the output pads: the least set that has the cells to which output pads listen and
--- the cells to which the pins of its members listen.
+-- The cells that matter to the output pads: the least set that has the cells to which output pads
+-- listen and the cells to which the pins of its members listen.
 use Rattle.std.specs.Prelude.{◌≡◌, ℕ, ◌<◌, Bool, true, false, List, length, slice_index_or}
 use Rattle.clause_defs.specs.Clauses.{Has}
 use Rattle.fabric_defs.specs.Geometries.{cell_count}

@@ -1,5 +1,5 @@
--- The bits of cells and output pads, where the input pads have the bits x, as equations over sources and
--- tables that hold all at once.
+-- The bits of cells and output pads, where the input pads have the bits x, as equations over
+-- sources and tables that hold all at once.
 use Rattle.std.specs.Prelude.{◌≡◌, ℕ, ◌<◌, true, List, length, map, slice_index, slice_index_or}
 use Rattle.fabric_defs.specs.Wirings.{table_bit}
 use Rattle.cell_defs.specs.declared.source.Source.{Source}
@@ -17,7 +17,8 @@ source_bit x a (Cell k) = slice_index a k
 abbrev pub source_bits : List ℕ → List ℕ → List Source → List ℕ
 source_bits x a sources = map (source_bit x a) sources
 
--- the bit of its table that the pins of a cell choose, however many there are and wherever they listen
+-- the bit of its table that the pins of a cell choose, however many there are and wherever they
+-- listen
 abbrev pub chosen_bit : List ℕ → List ℕ → CellValue → ℕ
 chosen_bit x a cell = table_bit cell.table (source_bits x a cell.pins)
 
@@ -32,7 +33,8 @@ pub record CellBits (cells : CellsValue) (x a : List ℕ) : Type 0 where
 
 -- the cells of the cone have the bits a; nothing is said of the others
 abbrev pub ConeBits : CellsValue → List ℕ → List ℕ → Type 0
-ConeBits cells x a = (k : ℕ) → k < length cells.cells → in_cone cells k ≡ true → IsCellBit cells x a k
+ConeBits cells x a =
+    (k : ℕ) → k < length cells.cells → in_cone cells k ≡ true → IsCellBit cells x a k
 
 -- the bits of the output pads
 abbrev pub output_bits : CellsValue → List ℕ → List ℕ → List ℕ

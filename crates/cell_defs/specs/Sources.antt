@@ -32,7 +32,8 @@ track_source config (suc c) t =
 
 -- the source of a pin of the cell at a column and a row
 abbrev pub pin_source : ConfigValue → ℕ → ℕ → ℕ → Source
-pin_source config column row pin = tapped_source (track_source config column) (pin_word config column row pin)
+pin_source config column row pin =
+    tapped_source (track_source config column) (pin_word config column row pin)
 
 -- the cell at a column and a row
 abbrev pub cell_of : ConfigValue → ℕ → ℕ → CellValue
@@ -43,14 +44,15 @@ cell_of config column row = record {
 
 -- the source of an output pad
 abbrev pub output_source : ConfigValue → ℕ → Source
-output_source config pad = tapped_source (track_source config config.geometry.columns) (output_word config pad)
+output_source config pad =
+    tapped_source (track_source config config.geometry.columns) (output_word config pad)
 
 -- the sources of all output pads
 abbrev pub output_sources : ConfigValue → List Source
 output_sources config = list_of config.geometry.output_pads (output_source config)
 
--- the sources and tables of a configuration's cells, and the sources of its output pads; nothing is said of the
--- cone
+-- the sources and tables of a configuration's cells, and the sources of its output pads; nothing is
+-- said of the cone
 pub record AreSourcesOf (config : ConfigValue) (cells : CellsValue) : Type 0 where
   pub geometry : cells.geometry ≡ config.geometry
   pub count : length cells.cells ≡ cell_count config.geometry

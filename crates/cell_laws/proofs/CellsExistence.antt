@@ -8,8 +8,8 @@ use Rattle.fabric_defs.specs.Geometries.{cell_count, cell_number}
 use Rattle.fabric_defs.specs.Configurations.{ConfigValue, IsConfig}
 use Rattle.fabric_laws.proofs.LayoutLemmas.{cell_number-lt}
 use Rattle.fabric_laws.proofs.NumberedLemmas.{length-list_of, get_or-list_of}
-use Rattle.cell_defs.specs.Cells.{CellsValue, no_cell, cell_at, AreCells}
-use Rattle.cell_defs.specs.Cones.{in_cone, with_cone, IsClosed, IsCone}
+use Rattle.cell_defs.specs.Cells.{CellsValue, no_cell, AreCells}
+use Rattle.cell_defs.specs.Cones.{in_cone, with_cone, IsCone}
 use Rattle.cell_defs.specs.Sources.{AreSourcesOf, AreCellsOf, cell_of, output_sources}
 use Rattle.cell_laws.proofs.CellEquations.{listens_below}
 use Rattle.cell_laws.proofs.CellsLemmas.{cells_of_config, output_cell-lt}

@@ -1,8 +1,9 @@
--- The cells of a configuration: they listen to lower numbers only, and their equations give the bits of the wiring.
-use Rattle.std.proofs.Common.{◌≡◌, ℕ, suc, ◌*◌, ◌<◌, ◌^◌, true, List, length, get_or, All, ap, subst, sym, ◌∙◌, arith}
+-- The cells of a configuration: they listen to lower numbers only, and their equations give the
+-- bits of the wiring.
+use Rattle.std.proofs.Common.{◌≡◌, ℕ, suc, ◌*◌, ◌<◌, true, List, length, get_or, All, ap, subst, sym, ◌∙◌, arith}
 use Rattle.clause_defs.specs.Clauses.{Has}
-use Rattle.fabric_defs.specs.Geometries.{GeometryValue, pin_count, table_bits, cell_count, cell_number}
-use Rattle.fabric_defs.specs.Configurations.{ConfigValue, IsConfig, table}
+use Rattle.fabric_defs.specs.Geometries.{GeometryValue, pin_count, cell_count, cell_number}
+use Rattle.fabric_defs.specs.Configurations.{ConfigValue, IsConfig}
 use Rattle.fabric_defs.specs.Wirings.{Wiring, Wired, pad_bits}
 use Rattle.fabric_laws.proofs.NumberedLemmas.{length-list_of, All-list_of}
 use Rattle.fabric_laws.proofs.LimitLemmas.{track_word-le, has_ranges}

@@ -1,5 +1,5 @@
--- Each list of cells that listen to lower numbers only has a cone: the cells that the output pads reach in a
--- number of steps.
+-- Each list of cells that listen to lower numbers only has a cone: the cells that the output pads
+-- reach in a number of steps.
 use Rattle.std.proofs.Common.{◌≡◌, ℕ, zero, suc, ◌+◌, ◌<◌, ◌≤◌, ◌⊎◌, inl, inr, Bool, true, false, List, [], ◌∷◌, length, refl, subst, arith}
 use Rattle.std.proofs.lemmas.Bool.{cases_eq, cases_order}
 use Rattle.clause_defs.specs.Clauses.{Has}

@@ -1,9 +1,9 @@
 -- The cone stands beside the cells: what is said of sources stays where another one is put there.
-use Rattle.std.proofs.Common.{◌≡◌, ℕ, Bool, true, List, length, sym, ◌∙◌}
+use Rattle.std.proofs.Common.{◌≡◌, ℕ, Bool, List, length, sym, ◌∙◌}
 use Rattle.fabric_defs.specs.Geometries.{cell_count}
 use Rattle.fabric_defs.specs.Configurations.{ConfigValue}
 use Rattle.cell_defs.specs.Cells.{CellsValue, AreCells}
-use Rattle.cell_defs.specs.Cones.{in_cone, with_cone, IsClosed, IsCone, HasCone}
+use Rattle.cell_defs.specs.Cones.{in_cone, with_cone, IsClosed, IsCone}
 use Rattle.cell_defs.specs.Sources.{AreSourcesOf, AreCellsOf}
 
 -- the cells of a fabric
@@ -43,7 +43,8 @@ IsCone-agree l s t e h = record {
   least = λ other closed k member. h.least other closed k (e k ∙ member);
 }
 
--- a mark for each cell, where the marks tell the least closed set, makes the sources the cells of a configuration
+-- a mark for each cell, where the marks tell the least closed set, makes the sources the cells of a
+-- configuration
 pub AreCellsOf-with_cone : (k : ConfigValue) (l : CellsValue) (cone : List Bool) → AreSourcesOf k l → length cone ≡ cell_count l.geometry
     → IsCone l (in_cone (with_cone l cone)) → AreCellsOf k (with_cone l cone)
 AreCellsOf-with_cone k l cone of count is = record {

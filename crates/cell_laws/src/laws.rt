@@ -7,16 +7,16 @@ ghost use Rattle.cell_defs.specs.Sources.{AreSourcesOf, AreCellsOf};
 ghost use Rattle.cell_defs.specs.Evaluation.{CellBits, ConeBits, output_bits};
 
 /// The equations of the cells in the cone alone determine the output pads: whatever bits obey them,
-/// the output pads of the configured fabric have the bits of their sources. Of the cone it is enough
-/// that it has all the cells to which the output pads and its members listen.
+/// the output pads of the configured fabric have the bits of their sources. Of the cone it is
+/// enough that it has all the cells to which the output pads and its members listen.
 pub fn cone_determines_the_outputs()
     ensures { (config : ConfigValue) (cells : CellsValue) (x a : List ℕ) → IsConfig config
         → AreSourcesOf config cells → IsClosed cells (in_cone cells) → ConeBits cells x a
         → FabOut config x (output_bits cells x a) }
 {}
 
-/// Bits that obey the equations of all cells are the bits of the configured fabric: of each cell, and
-/// of the output pads.
+/// Bits that obey the equations of all cells are the bits of the configured fabric: of each cell,
+/// and of the output pads.
 pub fn cells_have_their_bits()
     ensures cells { (config : ConfigValue) (cells : CellsValue) (x a : List ℕ) → IsConfig config
         → AreSourcesOf config cells → CellBits cells x a
@@ -34,8 +34,8 @@ pub fn bits_exist()
         → CellBits cells x a → CellBits cells x b → a ≡ b }
 {}
 
-/// The cells of a configuration listen to cells with lower numbers only, and each has all its pins and
-/// a table that fits them.
+/// The cells of a configuration listen to cells with lower numbers only, and each has all its pins
+/// and a table that fits them.
 pub fn sources_are_cells()
     ensures { (config : ConfigValue) (cells : CellsValue) → IsConfig config
         → AreSourcesOf config cells → AreCells cells }

@@ -2,8 +2,8 @@
 //!
 //! Each function of this crate does nothing. Its contract is a law, which whoever calls it can rely
 //! on: a configuration has one list of cells with one cone, the equations of cells have exactly one
-//! solution, and that solution gives the bits of the configured fabric. For its output pads the cone
-//! is enough.
+//! solution, and that solution gives the bits of the configured fabric. For its output pads the
+//! cone is enough.
 #![tactic(auto)]
 
 mod laws;

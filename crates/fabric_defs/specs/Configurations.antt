@@ -1,5 +1,5 @@
--- Configurations: the words of a fabric, each in its range, what they say of each part, and the bytes that spell
--- them.
+-- Configurations: the words of a fabric, each in its range, what they say of each part, and the
+-- bytes that spell them.
 use Rattle.std.specs.Prelude.{◌≡◌, ◌≢◌, ℕ, ◌+◌, ◌*◌, ◌^◌, ◌<◌, ◌≤◌, List, [], ◌∷◌, length, slice_index, Result, Ok, Err}
 use Rattle.std.specs.List.{AllZip}
 use Rattle.fabric_defs.specs.Numbered.{list_of}
@@ -20,11 +20,13 @@ first_word config t = slice_index config.words t
 
 -- the word of a pin of the cell at a column and a row
 abbrev pub pin_word : ConfigValue → ℕ → ℕ → ℕ → ℕ
-pin_word config column row pin = slice_index config.words (cell_place config.geometry column row + pin)
+pin_word config column row pin =
+    slice_index config.words (cell_place config.geometry column row + pin)
 
 -- word j of the table of the cell at a column and a row
 abbrev pub table_word : ConfigValue → ℕ → ℕ → ℕ → ℕ
-table_word config column row j = slice_index config.words (table_place config.geometry column row + j)
+table_word config column row j =
+    slice_index config.words (table_place config.geometry column row + j)
 
 -- the word of track t of the channel after a column
 abbrev pub track_word : ConfigValue → ℕ → ℕ → ℕ
@@ -44,7 +46,8 @@ pin_words config column row = list_of (pin_count config.geometry) (pin_word conf
 
 -- the words of its table
 abbrev pub table_words_at : ConfigValue → ℕ → ℕ → List ℕ
-table_words_at config column row = list_of (table_words config.geometry) (table_word config column row)
+table_words_at config column row =
+    list_of (table_words config.geometry) (table_word config column row)
 
 -- the words of the channel after a column
 abbrev pub track_words : ConfigValue → ℕ → List ℕ
@@ -74,13 +77,14 @@ pub record IsFirstAbove (most words : List ℕ) (place : ℕ) : Type 0 where
   pub here : slice_index most place < slice_index words place
   pub earlier : (i : ℕ) → i < place → slice_index words i ≤ slice_index most i
 
--- The configuration of these words, or its first fault: so many bytes in place of those that the geometry
--- wants, or else the byte at which the first word out of its range begins.
+-- The configuration of these words, or its first fault: so many bytes in place of those that the
+-- geometry wants, or else the byte at which the first word out of its range begins.
 abbrev pub ConfigOf : GeometryValue → ℕ → List ℕ → Result ConfigValue ConfigError → Type 0
 ConfigOf g bytes words (Ok config) =
     (bytes ≡ 2 * word_count g) × IsConfig config × (config ≡ record { geometry = g; words = words })
 ConfigOf g bytes words (Err (Length want found)) =
     (bytes ≢ 2 * word_count g) × (want ≡ 2 * word_count g) × (found ≡ bytes)
 ConfigOf g bytes words (Err (Selector at)) =
-    (bytes ≡ 2 * word_count g) × (place : ℕ) × (at ≡ 2 * place) × IsFirstAbove (limits g) words place
+    (bytes ≡ 2 * word_count g) × (place : ℕ) × (at ≡ 2 * place)
+    × IsFirstAbove (limits g) words place
 ConfigOf g bytes words (Err NoMemory) = ⊥

@@ -1,5 +1,5 @@
--- The numbers of a fabric, and the kind of its cells: columns of rows of cells, a channel of tracks before each
--- column and after the last one, and pads for inputs and outputs.
+-- The numbers of a fabric, and the kind of its cells: columns of rows of cells, a channel of tracks
+-- before each column and after the last one, and pads for inputs and outputs.
 use Rattle.std.specs.Prelude.{ℕ, ◌+◌, ◌*◌, ◌^◌, ◌≤◌}
 use Rattle.fabric_defs.specs.declared.limits.TheConstants.{MAX_SIDE, MAX_TRACKS}
 use Rattle.fabric_defs.specs.declared.kind.CellKind.{CellKind}

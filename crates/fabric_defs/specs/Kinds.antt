@@ -1,4 +1,5 @@
--- The kinds of cells. A kind has a number of pins, and a table with a bit for each list of bits at the pins.
+-- The kinds of cells. A kind has a number of pins, and a table with a bit for each list of bits at
+-- the pins.
 use Rattle.std.specs.Prelude.{ℕ}
 use Rattle.fabric_defs.specs.declared.kind.CellKind.{CellKind}
 use Rattle.fabric_defs.specs.declared.kind.CellKind.TheVariants.{FourInputs, SixInputs}

@@ -1,6 +1,6 @@
--- Where the parts of a configuration stand, as places of words, and how great each word may be. In this
--- order: the tracks of channel 0; for each column its cells, each with its pins and its table, and then the
--- tracks of the channel after it; the output pads.
+-- Where the parts of a configuration stand, as places of words, and how great each word may be. In
+-- this order: the tracks of channel 0; for each column its cells, each with its pins and its table,
+-- and then the tracks of the channel after it; the output pads.
 use Rattle.std.specs.Prelude.{ℕ, ◌+◌, ◌*◌, List, ◌++◌}
 use Rattle.fabric_defs.specs.Numbered.{list_of, joined}
 use Rattle.fabric_defs.specs.Kinds.{table_words_of}
@@ -43,15 +43,20 @@ channel_place g column = column_place g column + g.rows * cell_words g
 abbrev pub output_place : GeometryValue → ℕ
 output_place g = column_place g g.columns
 
--- the greatest values of the words of a cell: a pin is off or listens to a track; a table may be any word
+-- the greatest values of the words of a cell: a pin is off or listens to a track; the words of a
+-- table may be any
 abbrev pub cell_limits : GeometryValue → List ℕ
-cell_limits g = list_of (pin_count g) (λ pin. g.tracks) ++ list_of (table_words g) (λ word. MAX_WORD)
+cell_limits g =
+    list_of (pin_count g) (λ pin. g.tracks) ++ list_of (table_words g) (λ word. MAX_WORD)
 
--- the greatest values of the words of a column: after its cells, a track is off, is kept, or takes a cell of the column
+-- the greatest values of the words of a column: after its cells, a track is off, is kept, or takes
+-- a cell of the column
 abbrev pub column_limits : GeometryValue → List ℕ
-column_limits g = joined g.rows (λ row. cell_limits g) ++ list_of g.tracks (λ track. g.rows + 1)
+column_limits g =
+    joined g.rows (λ row. cell_limits g) ++ list_of g.tracks (λ track. g.rows + 1)
 
--- the greatest values of all words: a track of channel 0 is off or takes an input pad; an output pad is off or listens to a track
+-- the greatest values of all words: a track of channel 0 is off or takes an input pad; an output
+-- pad is off or listens to a track
 abbrev pub limits : GeometryValue → List ℕ
 limits g =
     list_of g.tracks (λ track. g.input_pads)

@@ -12,4 +12,5 @@ words_in bytes = list_of (length bytes / 2) (word_at bytes)
 
 -- the bytes that spell the words
 abbrev pub bytes_of : List ℕ → List ℕ
-bytes_of words = joined (length words) (λ j. slice_index words j / 256 ∷ slice_index words j % 256 ∷ [])
+bytes_of words =
+    joined (length words) (λ j. slice_index words j / 256 ∷ slice_index words j % 256 ∷ [])

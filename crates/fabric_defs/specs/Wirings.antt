@@ -1,5 +1,5 @@
--- The bits of a configured fabric, where its input pads have the bits x, as equations that hold all at once.
--- No order of evaluation is named.
+-- The bits of a configured fabric, where its input pads have the bits x, as equations that hold all
+-- at once. No order of evaluation is named.
 use Rattle.std.specs.Prelude.{◌≡◌, ℕ, zero, suc, ◌+◌, ◌<◌, ◌≤◌, List, [], length, slice_index, slice_index_or}
 use Rattle.std.specs.Int.{bit_at}
 use Rattle.pch_base.specs.BitLists.{word_of}
@@ -49,29 +49,34 @@ pub record IsShaped (g : GeometryValue) (w : Wiring) : Type 0 where
   pub pins : (k : ℕ) → k < cell_count g → length (cell_pins w k) ≡ pin_count g
   pub cells : length w.cells ≡ cell_count g
 
-pub record Wired (k : ConfigValue) (x : List ℕ) (w : Wiring) : Type 0 where
-  pub shape : IsShaped k.geometry w
-  pub first_channel : (t : ℕ) → t < k.geometry.tracks
-      → slice_index (channel w 0) t ≡ pad_bit x (first_word k t)
-  pub pins : (column row pin : ℕ) → column < k.geometry.columns → row < k.geometry.rows → pin < pin_count k.geometry
-      → slice_index (cell_pins w (cell_number k.geometry column row)) pin
-      ≡ tapped_bit (channel w column) (pin_word k column row pin)
-  pub cells : (column row : ℕ) → column < k.geometry.columns → row < k.geometry.rows
-      → slice_index w.cells (cell_number k.geometry column row)
-      ≡ table_bit (table k column row) (cell_pins w (cell_number k.geometry column row))
-  pub next_channels : (column t : ℕ) → column < k.geometry.columns → t < k.geometry.tracks
+-- the bits that these words and these bits of the input pads give, all at once
+pub record Wired (config : ConfigValue) (x : List ℕ) (w : Wiring) : Type 0 where
+  pub shape : IsShaped config.geometry w
+  pub first_channel : (t : ℕ) → t < config.geometry.tracks
+      → slice_index (channel w 0) t ≡ pad_bit x (first_word config t)
+  pub pins : (column row pin : ℕ) → column < config.geometry.columns → row < config.geometry.rows
+      → pin < pin_count config.geometry
+      → slice_index (cell_pins w (cell_number config.geometry column row)) pin
+      ≡ tapped_bit (channel w column) (pin_word config column row pin)
+  pub cells : (column row : ℕ) → column < config.geometry.columns → row < config.geometry.rows
+      → slice_index w.cells (cell_number config.geometry column row)
+      ≡ table_bit (table config column row) (cell_pins w (cell_number config.geometry column row))
+  pub next_channels : (column t : ℕ) → column < config.geometry.columns → t < config.geometry.tracks
       → slice_index (channel w (column + 1)) t
       ≡ switched_bit (slice_index (channel w column) t)
-      (λ row. slice_index w.cells (cell_number k.geometry column row)) (track_word k column t)
+      (λ row. slice_index w.cells (cell_number config.geometry column row))
+      (track_word config column t)
 
 -- the bits of the output pads: off reads 0, else the track of the last channel
 abbrev pub pad_bits : ConfigValue → Wiring → List ℕ
-pad_bits k w = list_of k.geometry.output_pads (λ pad. tapped_bit (channel w k.geometry.columns) (output_word k pad))
+pad_bits config w =
+    list_of config.geometry.output_pads
+    (λ pad. tapped_bit (channel w config.geometry.columns) (output_word config pad))
 
 -- where the input pads have the bits x, the output pads have the bits y
 abbrev pub FabOut : ConfigValue → List ℕ → List ℕ → Type 0
-FabOut k x y = (w : Wiring) × Wired k x w × (y ≡ pad_bits k w)
+FabOut config x y = (w : Wiring) × Wired config x w × (y ≡ pad_bits config w)
 
 -- and this cell has the bit b
 abbrev pub CellBit : ConfigValue → List ℕ → ℕ → ℕ → Type 0
-CellBit k x cell b = (w : Wiring) × Wired k x w × (b ≡ slice_index w.cells cell)
+CellBit config x cell b = (w : Wiring) × Wired config x w × (b ≡ slice_index w.cells cell)

@@ -2,8 +2,8 @@ ghost use Rattle.std.specs.Prelude.{◌≡◌, ◌+◌, ◌≤◌};
 ghost use Rattle.fabric_defs.specs.Kinds.{kind_number, pins_of, table_words_of};
 ghost use Rattle.fabric_defs.specs.declared.limits.TheConstants.{MAX_PINS, MAX_CELL_WORDS};
 
-/// The kind of a fabric's cells: how many inputs each has. All that a configuration of the fabric has
-/// to say of a cell follows from it.
+/// The kind of a fabric's cells: how many inputs each has. All that a configuration of the fabric
+/// has to say of a cell follows from it.
 #[derive(Clone, Copy, Debug, PartialEq, Eq)]
 pub enum CellKind {
     /// Kind 1: cells of four inputs.

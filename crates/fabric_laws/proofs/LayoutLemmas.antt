@@ -1,12 +1,12 @@
 -- The sizes and places of the parts of a configuration, whatever the kind of its cells is.
-use Rattle.std.proofs.Common.{◌≡◌, ℕ, ◌+◌, ◌*◌, ◌^◌, ◌<◌, ◌≤◌, refl, ap, sym, ◌∙◌, arith}
+use Rattle.std.proofs.Common.{◌≡◌, ℕ, ◌+◌, ◌*◌, ◌^◌, ◌<◌, ◌≤◌, refl, arith}
 use Rattle.std.proofs.lemmas.Nat.{mul-add-lt, mul-le, row_fits}
 use Rattle.std.proofs.Math.Nat.{mul_comm}
 use Rattle.fabric_defs.specs.declared.kind.CellKind.{CellKind}
 use Rattle.fabric_defs.specs.declared.kind.CellKind.TheVariants.{FourInputs, SixInputs}
 use Rattle.fabric_defs.specs.declared.limits.TheConstants.{MAX_SIDE, MAX_TRACKS, MAX_PINS, MAX_CELL_WORDS, WORD_BITS}
 use Rattle.fabric_defs.specs.Kinds.{pins_of, table_words_of}
-use Rattle.fabric_defs.specs.Geometries.{GeometryValue, IsGeometry, pin_count, cell_count, cell_number}
+use Rattle.fabric_defs.specs.Geometries.{GeometryValue, IsGeometry, cell_count, cell_number}
 use Rattle.fabric_defs.specs.Layout.{cell_words, column_words, word_count, column_place, cell_place, table_place, channel_place, output_place, table_words}
 
 -- a table has a bit for each list of bits at the pins of its cell

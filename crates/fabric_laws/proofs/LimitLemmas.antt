@@ -1,4 +1,5 @@
--- The greatest value of each word of a configuration, by the part of the fabric that the word is for.
+-- The greatest value of each word of a configuration, by the part of the fabric that the word is
+-- for.
 use Rattle.std.proofs.Common.{◌≡◌, ℕ, ◌+◌, ◌*◌, ◌^◌, ◌<◌, ◌≤◌, List, ◌++◌, length, get_or, refl, ap, subst, sym, ◌∙◌, arith, length-append}
 use Rattle.std.proofs.lemmas.List.{get_or_append_left, get_or-append-add}
 use Rattle.std.proofs.lemmas.List.Elements.{AllZip-get_or, length_all_zip}

@@ -1,15 +1,15 @@
--- The words of each part of a configuration: they are there, they stand one after another, and none is above what
--- its part allows.
-use Rattle.std.proofs.Common.{◌≡◌, ℕ, ◌+◌, ◌-◌, ◌<◌, ◌≤◌, List, length, take, drop, get_or, All, ap, sym, ◌∙◌, arith, length-drop}
+-- The words of each part of a configuration: they are there, they stand one after another, and none
+-- is above what its part allows.
+use Rattle.std.proofs.Common.{◌≡◌, ℕ, ◌+◌, ◌-◌, ◌<◌, ◌≤◌, List, length, take, drop, get_or, All, ◌∙◌, arith, length-drop}
 use Rattle.std.specs.List.{slice_range}
 use Rattle.std.proofs.lemmas.List.{length-take, length-take-le, get_or-take, get_or-drop}
 use Rattle.fabric_defs.specs.Numbered.{list_of}
 use Rattle.fabric_defs.specs.Geometries.{pin_count}
 use Rattle.fabric_defs.specs.Layout.{table_words, cell_place, table_place, channel_place, output_place}
-use Rattle.fabric_defs.specs.Configurations.{ConfigValue, IsConfig, first_word, pin_word, table_word, track_word, output_word, first_words, pin_words, table_words_at, track_words, output_words}
+use Rattle.fabric_defs.specs.Configurations.{ConfigValue, IsConfig, first_word, pin_word, track_word, output_word, first_words, pin_words, table_words_at, track_words, output_words}
 use Rattle.fabric_laws.proofs.NumberedLemmas.{list_of_elements, All-list_of}
 use Rattle.fabric_laws.proofs.LayoutLemmas.{cell_place-le, channel_place-le}
-use Rattle.fabric_laws.proofs.LimitLemmas.{length-words, first_word-le, pin_word-le, table_word-le, track_word-le, output_word-le}
+use Rattle.fabric_laws.proofs.LimitLemmas.{length-words, first_word-le, pin_word-le, track_word-le, output_word-le}
 
 -- a run of words by place
 pub range_is : (words : List ℕ) (from count : ℕ) → from + count ≤ length words

@@ -1,7 +1,7 @@
 -- The wiring of a configuration and input bits, column by column: it is one, and the only one.
 use Rattle.std.proofs.Common.{◌≡◌, ℕ, zero, suc, ◌+◌, ◌<◌, ◌≤◌, List, [], length, get_or, refl, ap, sym, ◌∙◌, arith}
 use Rattle.fabric_defs.specs.Numbered.{list_of, joined}
-use Rattle.fabric_defs.specs.Geometries.{GeometryValue, pin_count, cell_count, cell_number}
+use Rattle.fabric_defs.specs.Geometries.{pin_count, cell_number}
 use Rattle.fabric_defs.specs.Configurations.{ConfigValue, first_word, pin_word, table, track_word}
 use Rattle.fabric_defs.specs.Wirings.{Wiring, Wired, IsShaped, channel, cell_pins, pad_bit, tapped_bit, switched_bit, table_bit}
 use Rattle.fabric_laws.specs.Columns.{TakesOwnColumns}

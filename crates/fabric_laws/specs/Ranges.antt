@@ -8,11 +8,12 @@ use Rattle.fabric_defs.specs.Configurations.{ConfigValue, first_word, pin_word, 
 -- all words are there, and each is at most what its part allows
 pub record HasRanges (config : ConfigValue) : Type 0 where
   pub count : length config.words ≡ word_count config.geometry
-  pub first_words : (t : ℕ) → t < config.geometry.tracks → first_word config t ≤ config.geometry.input_pads
-  pub pin_words : (column row pin : ℕ) → column < config.geometry.columns → row < config.geometry.rows
-      → pin < pin_count config.geometry → pin_word config column row pin ≤ config.geometry.tracks
-  pub table_words : (column row j : ℕ) → column < config.geometry.columns → row < config.geometry.rows
-      → j < table_words config.geometry → table_word config column row j ≤ MAX_WORD
+  pub first_words : (t : ℕ) → t < config.geometry.tracks
+      → first_word config t ≤ config.geometry.input_pads
+  pub pin_words : (column row pin : ℕ) → column < config.geometry.columns
+      → row < config.geometry.rows → pin < pin_count config.geometry → pin_word config column row pin ≤ config.geometry.tracks
+  pub table_words : (column row j : ℕ) → column < config.geometry.columns
+      → row < config.geometry.rows → j < table_words config.geometry → table_word config column row j ≤ MAX_WORD
   pub tables : (column row : ℕ) → column < config.geometry.columns → row < config.geometry.rows
       → table config column row < 2 ^ table_bits config.geometry
   pub track_words : (column t : ℕ) → column < config.geometry.columns → t < config.geometry.tracks

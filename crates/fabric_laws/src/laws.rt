@@ -8,9 +8,9 @@ ghost use Rattle.fabric_defs.specs.declared.faults.ConfigError.{ConfigError};
 ghost use Rattle.fabric_laws.specs.Columns.{TakesOwnColumns};
 ghost use Rattle.fabric_laws.specs.Ranges.{HasRanges};
 
-/// The words and the bits of the input pads, however many are given, determine the bits of all tracks,
-/// pins and cells: there is exactly one wiring (`Wired`). It is enough that no track takes a cell of
-/// another column, as in every configuration (`words_have_their_ranges`).
+/// The words and the bits of the input pads, however many are given, determine the bits of all
+/// tracks, pins and cells: there is exactly one wiring (`Wired`). It is enough that no track takes
+/// a cell of another column, as in every configuration (`words_have_their_ranges`).
 pub fn wiring_exists_and_is_unique()
     ensures exists { (config : ConfigValue) (x : List ℕ) → TakesOwnColumns config
         → (w : Wiring) × Wired config x w }

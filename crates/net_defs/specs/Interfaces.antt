@@ -43,13 +43,6 @@ InterfaceOf spec design (Err (OutputError Design place)) =
     × IsFirstMissing (output_names spec) (output_names design) place
 InterfaceOf spec design (Err NoMemory) = ⊥
 
--- what a call answers that may also want memory
-abbrev pub GivesInterfaceOf : Network → Network → Result PlacePairs InterfaceError → Type 0
-GivesInterfaceOf spec design (Ok p) = InterfaceOf spec design (Ok p)
-GivesInterfaceOf spec design (Err (Input side place)) = InterfaceOf spec design (Err (Input side place))
-GivesInterfaceOf spec design (Err (OutputError side place)) = InterfaceOf spec design (Err (OutputError side place))
-GivesInterfaceOf spec design (Err NoMemory) = Unit {0}
-
 -- the places 0 to n - 1, each once, in some order
 pub record IsRearrangement (n : ℕ) (places : List ℕ) : Type 0 where
   pub as_many : length places ≡ n

@@ -6,3 +6,5 @@ pub mod Names
 pub mod NetOf
 pub mod Interfaces
 pub mod Alignments
+pub mod Orders
+pub mod Specifications

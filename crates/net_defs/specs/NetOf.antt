@@ -16,11 +16,13 @@ signal_names b = signals_of b.inputs b.covers
 abbrev pub IsNameOf : BlifValue → List ℕ → ℕ → Type 0
 IsNameOf b name s = slice_get (signal_names b) s ≡ Some name
 
+-- the node has the signals with the names of the cover's inputs, and its rows
 pub record IsNodeOf (b : BlifValue) (cover : CoverValue) (node : Node) : Type 0 where
   pub fan_ins : AllZip (IsNameOf b) cover.ins node.fan_ins
   pub on : node.on ≡ cover.on
   pub rows : node.rows ≡ cover.rows
 
+-- the output has this name, and the signal with this name
 pub record IsOutputOf (b : BlifValue) (wanted : List ℕ) (output : Output) : Type 0 where
   pub name : output.name ≡ wanted
   pub signal : IsNameOf b wanted output.signal
@@ -35,6 +37,7 @@ pub record IsNetworkOf (b : BlifValue) (net : Network) : Type 0 where
 abbrev pub no_cover : CoverValue
 no_cover = record { ins = []; out = []; on = true; rows = [] }
 
+-- each input of the cover is the name of a signal
 abbrev pub HasDrivenPins : BlifValue → CoverValue → Type 0
 HasDrivenPins b cover = All (Contains (signal_names b)) cover.ins
 
@@ -50,7 +53,8 @@ pub record IsFirstUnsettled (net : Network) (v : ℕ) : Type 0 where
   pub earlier : (u : ℕ) → u < v → Settled net (length net.nodes) u
   pub here : ¬ Settled net (length net.nodes) v
 
--- a pin comes before an output, and an output before a cycle
+-- The network of the design, or the first fault that keeps it from being one: a pin comes before an output,
+-- and an output before a cycle. Want of memory is no fault of a design.
 abbrev pub NetOf : BlifValue → Result Network NetError → Type 0
 NetOf b (Ok net) = IsNetworkOf b net × IsAcyclic net
 NetOf b (Err (UndrivenPin node pin)) = IsFirstUndrivenPin b node pin
@@ -58,11 +62,3 @@ NetOf b (Err (UndrivenOutput place)) =
     All (HasDrivenPins b) b.covers × IsFirstMissing (signal_names b) b.outputs place
 NetOf b (Err (Cycle node)) = (net : Network) × IsNetworkOf b net × IsFirstUnsettled net node
 NetOf b (Err NoMemory) = ⊥
-
--- what a call answers that may also want memory
-abbrev pub GivesNetOf : BlifValue → Result Network NetError → Type 0
-GivesNetOf b (Ok net) = NetOf b (Ok net)
-GivesNetOf b (Err (UndrivenPin node pin)) = NetOf b (Err (UndrivenPin node pin))
-GivesNetOf b (Err (UndrivenOutput place)) = NetOf b (Err (UndrivenOutput place))
-GivesNetOf b (Err (Cycle node)) = NetOf b (Err (Cycle node))
-GivesNetOf b (Err NoMemory) = Unit {0}

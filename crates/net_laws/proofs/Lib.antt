@@ -3,3 +3,5 @@ pub mod PairingLemmas
 pub mod AlignLemmas
 pub mod NetLemmas
 pub mod ReorderLemmas
+pub mod NetworkLemmas
+pub mod SpecificationLemmas

@@ -1,5 +1,5 @@
 -- A net with its inputs and outputs in another order is a net.
-use Rattle.std.proofs.Common.{◌≡◌, ℕ, zero, suc, ◌-◌, ◌<◌, ◌≤◌, ◌⊎◌, inl, inr, ⊎_elim, List, [], ◌∷◌, length, get_or, All, sum_by, refl, ap, sym, subst, arith}
+use Rattle.std.proofs.Common.{◌≡◌, ℕ, zero, suc, ◌-◌, ◌<◌, ◌≤◌, ◌⊎◌, inl, inr, ⊎_elim, List, [], ◌∷◌, length, get_or, All, sum_by, refl, ap, sym, subst, ◌∙◌, arith}
 use Rattle.std.proofs.lemmas.List.{length-map}
 use Rattle.std.proofs.lemmas.List.Sums.{sum_by-cons}
 use Rattle.std.proofs.lemmas.Option.{slice_get_within, get_or_from_slice_get}
@@ -68,6 +68,7 @@ IsNode-moved places node moved n le h is =
       fan_ins_within = omega (arith, is.fan_ins_within, size);
       fan_ins = fan_ins_within places node.fan_ins moved.fan_ins n le h.fan_ins is.fan_ins;
       rows = subst Q (sym h.rows) (subst P (sym size) is.rows);
+      on = λ none. h.on ∙ is.on (sym h.rows ∙ none);
     }
 
 output_within : (design : Network) (places : List ℕ) (k : ℕ) (moved : Output) (n : ℕ) → length places ≤ n → IsOutputFrom design.outputs places k moved
@@ -89,6 +90,7 @@ rows_size-moved places (n ∷ ns) (o ∷ os) h =
     let r : rows_size o.rows ≡ rows_size n.rows = ap rows_size h.0.rows in
     omega (arith, e, f, r, rows_size-moved places ns os h.1)
 
+-- a net in another order is a net
 pub IsNet-aligned : (design : Network) (p : PlacePairs) (net : Network) → IsNet design → Pairs design p → IsAligned design p net → IsNet net
 IsNet-aligned design p net is pairs h =
     let ins = inputs_count design p net h in

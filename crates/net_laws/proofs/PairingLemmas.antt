@@ -59,7 +59,8 @@ missing_not_earlier names wanted p q h k below =
     let P : List ℕ → Type 0 = λ x. Contains names x in
     h.here (subst P (get_or-take q wanted p [] below) (k.earlier p [] (omega (arith, size))))
 
-missing_unique : (names wanted : List (List ℕ)) (p q : ℕ) → IsFirstMissing names wanted p → IsFirstMissing names wanted q → p ≡ q
+-- one name is the first that is missing
+pub missing_unique : (names wanted : List (List ℕ)) (p q : ℕ) → IsFirstMissing names wanted p → IsFirstMissing names wanted q → p ≡ q
 missing_unique names wanted p q h k =
     ⊎_elim (λ e. e)
     (λ apart. ⊎_elim (λ below. absurd (missing_not_earlier names wanted p q h k below)) (λ above. absurd (missing_not_earlier names wanted q p k h above)) apart)

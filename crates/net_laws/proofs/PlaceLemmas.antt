@@ -17,6 +17,12 @@ zip_at R (x ∷ xs) [] i d e h lt = absurd h
 zip_at R (x ∷ xs) (y ∷ ys) zero d e h lt = h.0
 zip_at R (x ∷ xs) (y ∷ ys) (suc i) d e h lt = zip_at R xs ys i d e h.1 (omega arith)
 
+-- what follows at each place of the first list
+pub zip_all_left : {A B : Type 0} (R : A → B → Type 0) (P : A → Type 0) (xs : List A) (ys : List B) → ((x : A) (y : B) → R x y → P x)
+    → AllZip R xs ys → (e : B) → All P xs
+zip_all_left R P xs ys f h e = λ i d lt. f _ _ (zip_at R xs ys i d e h lt)
+
+-- lists that go with each other are equally long
 pub zip_length : {A B : Type 0} (R : A → B → Type 0) (xs : List A) (ys : List B) → AllZip R xs ys → length ys ≡ length xs
 zip_length R [] [] h = refl
 zip_length R [] (y ∷ ys) h = absurd h
@@ -65,6 +71,7 @@ StandAt-complete n places list other found r le me h k =
 pub Contains-standing : {X : Type 0} (list : List X) (s : ℕ) (x : X) → slice_get list s ≡ Some x → Contains list x
 Contains-standing list s x h = (s, slice_get_within list s x h, get_or_from_slice_get list s x x h)
 
+-- and what stands at places is among the elements
 pub All-standing : {X : Type 0} (list : List X) (places : List ℕ) (found : List X) → StandAt list places found → All (Contains list) found
 All-standing list places found h = λ i d lt.
     Contains-standing list (get_or places i 0) (get_or found i d)
@@ -81,6 +88,7 @@ names_apart names x i j h at_i at_j below =
     (subst Q (get_or_from_slice_get names j x x at_j) (subst P (get_or_from_slice_get names i x x at_i) no))
     ((bytes_eq-Decides x x).1 refl)
 
+-- a name stands at one place of distinct names
 pub same_place : (names : List (List ℕ)) (x : List ℕ) (i j : ℕ) → IsDistinct bytes_eq names → slice_get names i ≡ Some x → slice_get names j ≡ Some x
     → i ≡ j
 same_place names x i j h at_i at_j =

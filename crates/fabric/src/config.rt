@@ -44,7 +44,7 @@ fn number_of(words: &[u16]) -> u64
 {
     let mut number = 0;
     for word in words {
-        number = number << WORD_BITS | u64::from(*word);
+        number = (number << WORD_BITS) + u64::from(*word);
     }
     number
 }
@@ -87,7 +87,9 @@ impl Config {
         ensures count { length result.now ≡ self.now.geometry.tracks }
         ensures within { All (λ word. word ≤ self.now.geometry.input_pads) result.now }
     {
-        &self.words[..self.geometry.t() as usize]
+        let count = self.geometry().t() as usize;
+        let words = self.words();
+        &words[..count]
     }
 
     /// The words of the pins of the cell at a column and a row, pin 0 first: off (0), or a track of the
@@ -99,7 +101,7 @@ impl Config {
         ensures count { length result.now ≡ pin_count self.now.geometry }
         ensures within { All (λ word. word ≤ self.now.geometry.tracks) result.now }
     {
-        self.pins_in(self.geometry, column, row)
+        self.pins_in(self.geometry(), column, row)
     }
 
     /// The table of the cell at a column and a row: bit k of it, the least bit being bit 0, is the
@@ -109,7 +111,7 @@ impl Config {
         requires row { row < self.now.geometry.rows }
         ensures { result ≡ table self.now column row }
     {
-        self.table_in(self.geometry, column, row)
+        self.table_in(self.geometry(), column, row)
     }
 
     /// The words of the tracks of the channel after a column: off (0), kept (1), or the cell of a row of
@@ -120,8 +122,10 @@ impl Config {
         ensures count { length result.now ≡ self.now.geometry.tracks }
         ensures within { All (λ word. word ≤ self.now.geometry.rows + 1) result.now }
     {
-        let place = self.geometry.channel_place(column);
-        &self.words[place..place + self.geometry.t() as usize]
+        let g = self.geometry();
+        let words = self.words();
+        let place = g.channel_place(column);
+        &words[place..place + g.t() as usize]
     }
 
     /// The words of the output pads: off (0), or a track of the last channel (its number plus 1).
@@ -130,7 +134,10 @@ impl Config {
         ensures count { length result.now ≡ self.now.geometry.output_pads }
         ensures within { All (λ word. word ≤ self.now.geometry.tracks) result.now }
     {
-        &self.words[self.geometry.output_place()..]
+        let g = self.geometry();
+        let words = self.words();
+        let place = g.output_place();
+        &words[place..place + g.o() as usize]
     }
 
     /// As `pins`, for a caller that knows the geometry: where it is made with a fixed kind, places are
@@ -144,8 +151,9 @@ impl Config {
         ensures count { length result.now ≡ pin_count self.now.geometry }
         ensures within { All (λ word. word ≤ self.now.geometry.tracks) result.now }
     {
+        let words = self.words();
         let place = g.cell_place(column, row);
-        &self.words[place..place + g.pins() as usize]
+        &words[place..place + g.pins() as usize]
     }
 
     /// As `table`, for a caller that knows the geometry.
@@ -156,7 +164,8 @@ impl Config {
         requires row { row < self.now.geometry.rows }
         ensures { result ≡ table self.now column row }
     {
+        let words = self.words();
         let place = g.table_place(column, row);
-        number_of(&self.words[place..place + g.table_words() as usize])
+        number_of(&words[place..place + g.table_words() as usize])
     }
 }

@@ -85,7 +85,10 @@ fn put_cells_in(config: &Config, g: Geometry, column: u32, tracks: &BitArray, ce
 {
     let first = column * g.r();
     for row in 0..g.r() {
-        cells.set((first + row) as usize, cell_bit(config, g, column, row, tracks));
+        cells.set(
+            (first + row) as usize,
+            cell_bit(config, g, column, row, tracks),
+        );
     }
 }
 

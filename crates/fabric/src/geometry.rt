@@ -182,6 +182,7 @@ impl Geometry {
     pub fn words(self) -> u32
         ensures count { result ≡ word_count self }
         ensures small { result < 2 ^ 16 }
+        ensures known { IsGeometry self }
     {
         self.tracks + self.columns * self.column_words() + self.output_pads
     }

@@ -4,12 +4,12 @@ use Rattle.fabric.proofs.evaluation.eval.Goals as goal
 
 pub returns-clause-outputs : goal.returns-clause-outputs
 returns-clause-outputs c =
-    let k = c.args.k.now in
-    let wired = wiring_is_wired k c.args.x (λ column t lt within. track_word-le k column t c.known.ensures lt within) in
-    (wiring k c.args.x, wired, c.sweep.ensures.outputs _ wired)
+    let config = c.args.config.now in
+    let wired = wiring_is_wired config c.args.x (λ column t lt within. track_word-le config column t c.sweep.ensures.known lt within) in
+    (wiring config c.args.x, wired, c.sweep.ensures.outputs _ wired)
 
 pub returns-clause-cells : goal.returns-clause-cells
 returns-clause-cells c = λ n lt.
-    let k = c.args.k.now in
-    let wired = wiring_is_wired k c.args.x (λ column t lt within. track_word-le k column t c.known.ensures lt within) in
-    (wiring k c.args.x, wired, c.sweep.ensures.cells _ wired n lt)
+    let config = c.args.config.now in
+    let wired = wiring_is_wired config c.args.x (λ column t lt within. track_word-le config column t c.sweep.ensures.known lt within) in
+    (wiring config c.args.x, wired, c.sweep.ensures.cells _ wired n lt)

@@ -1,5 +1,4 @@
 use Rattle.std.proofs.Common.{◌≡◌, ℕ, ◌+◌, ◌<◌, length, slice_index}
-use Rattle.fabric_defs.specs.Configurations.{first_word}
 use Rattle.fabric_defs.specs.Wirings.{pad_bit}
 use Rattle.fabric.proofs.evaluation.put_first_channel.Given as goal
 
@@ -7,5 +6,5 @@ abbrev pub invariant-loop-t : goal.invariant-loop-t
 invariant-loop-t l = record {
   places : length l.tracks ≡ length l.fn.tracks;
   off : slice_index l.tracks 0 ≡ 0;
-  done : (j : ℕ) → j < l.t → slice_index l.tracks (j + 1) ≡ pad_bit l.x (first_word l.k j);
+  done : (j : ℕ) → j < l.t → slice_index l.tracks (j + 1) ≡ pad_bit l.x (slice_index l.words j);
 }

@@ -6,7 +6,7 @@ use Rattle.fabric.proofs.evaluation.sweep.Goals as goal
 pub loop-column-preserved : goal.loop-column-preserved
 loop-column-preserved c =
     let h = c.loop-column.invariant in
-    let cells : HasCells c.args.k.now c.args.x ((c.loop-column.column + 1) * c.args.k.now.geometry.rows) c.put_cells.new.cells =
+    let cells : HasCells c.args.config.now c.args.x ((c.loop-column.column + 1) * c.args.config.now.geometry.rows) c.put_cells.new.cells =
     c.put_cells.ensures.cells c.args.x h.channel h.cells in
     record {
       tracks = c.switch_tracks.ensures.places ∙ h.tracks;
@@ -17,7 +17,7 @@ loop-column-preserved c =
 
 pub returns-clause-outputs : goal.returns-clause-outputs
 returns-clause-outputs c = λ w wired.
-    let columns = ap (λ (g : GeometryValue). g.columns) c.geometry.ensures in
-    let all : c.loop-column.column ≡ c.args.k.now.geometry.columns = omega (arith, columns) in
-    let P : ℕ → Type 0 = λ m. HasChannel c.args.k.now c.args.x m c.loop-column.tracks in
+    let columns = ap (λ (g : GeometryValue). g.columns) c.geometry.ensures.value in
+    let all : c.loop-column.column ≡ c.args.config.now.geometry.columns = omega (arith, columns, c.c-column-end.ensures.value) in
+    let P : ℕ → Type 0 = λ m. HasChannel c.args.config.now c.args.x m c.loop-column.tracks in
     c.output_bits.ensures c.args.x w (subst P all c.loop-column.invariant.channel) wired

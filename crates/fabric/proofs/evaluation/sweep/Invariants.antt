@@ -6,6 +6,6 @@ abbrev pub invariant-loop-column : goal.invariant-loop-column
 invariant-loop-column l = record {
   tracks : length l.tracks ≡ length l.fn.tracks;
   places : length l.cells ≡ length l.fn.cells;
-  channel : HasChannel l.k l.fn.x l.column l.tracks;
-  cells : HasCells l.k l.fn.x (l.column * l.k.geometry.rows) l.cells;
+  channel : HasChannel l.config l.fn.x l.column l.tracks;
+  cells : HasCells l.config l.fn.x (l.column * l.config.geometry.rows) l.cells;
 }

@@ -8,7 +8,7 @@ invariant-loop-t l = record {
   places : length l.tracks ≡ length l.fn.tracks;
   off : slice_index l.tracks 0 ≡ slice_index l.fn.tracks 0;
   left : (j : ℕ) → l.t ≤ j → slice_index l.tracks (j + 1) ≡ slice_index l.fn.tracks (j + 1);
-  done : (x : List ℕ) (w : Wiring) → HasChannel l.k x l.column l.fn.tracks
-      → HasCells l.k x ((l.column + 1) * l.k.geometry.rows) l.cells → Wired l.k x w
+  done : (x : List ℕ) (w : Wiring) → HasChannel l.config x l.column l.fn.tracks
+      → HasCells l.config x ((l.column + 1) * l.config.geometry.rows) l.cells → Wired l.config x w
       → (j : ℕ) → j < l.t → slice_index l.tracks (j + 1) ≡ slice_index (channel w (l.column + 1)) j;
 }

@@ -4,7 +4,7 @@ use Rattle.fabric.proofs.config.Config.new.Goals as goal
 
 pub invariant_of-result : goal.invariant_of-result
 invariant_of-result c =
-    IsConfig-judged c.args.g c.args.words.items c.known.ensures (omega arith) (rw c.deref.ensures.value at c.in_ok-judge.ensures.ok)
+    IsConfig-judged c.args.g c.args.words.items c.words.ensures.known (omega arith) (rw c.deref.ensures.value at c.in_ok-judge.ensures.ok)
 
 pub returns : goal.returns
 returns c = (omega arith, invariant_of-result c, refl)

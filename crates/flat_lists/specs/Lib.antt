@@ -1,2 +1,2 @@
 pub mod Flat
-pub mod Parts
+pub mod Ends

@@ -1,6 +1,6 @@
 ghost use Rattle.std.specs.Prelude.{◌≡◌, ◌+◌, ◌-◌, ◌^◌, ◌<◌, ◌≤◌, ◌++◌, List, [], ◌∷◌, length, take, slice_get, Some, IfOk, OnOk, OnErr};
 ghost use Rattle.flat_lists.specs.Flat.{Flat, total};
-ghost use Rattle.flat_lists.specs.Parts.{parts, begin_of, EndsInOrder};
+ghost use Rattle.flat_lists.specs.Ends.{parts, begin_of, EndsInOrder};
 
 use std::alloc::{AllocError, Global};
 use std::marker::Model;
@@ -15,7 +15,7 @@ pub struct FlatLists<T> {
 impl<T> Model for FlatLists<T> {
     ghost use Rattle.std.specs.Prelude.{length, vec_capacity};
     ghost use Rattle.flat_lists.specs.Flat.{Flat};
-    ghost use Rattle.flat_lists.specs.Parts.{parts, IsFlat};
+    ghost use Rattle.flat_lists.specs.Ends.{parts, IsFlat};
 
     ghost Value = { Flat T };
 
@@ -72,7 +72,8 @@ impl<T: Copy> FlatLists<T> {
     /// List `k`, counted from 0.
     pub fn get(&self, k: u32) -> &[T]
         requires { k < length self.now.lists }
-        ensures { slice_get self.now.lists k ≡ Some result.now }
+        ensures list { slice_get self.now.lists k ≡ Some result.now }
+        ensures few { length result.now < 2 ^ 32 }
     {
         part(&self.items, &self.ends, k as usize)
     }
@@ -138,7 +139,8 @@ fn begin(ends: &[u32], k: usize) -> usize
 fn part<'a, T>(items: &'a [T], ends: &[u32], k: usize) -> &'a [T]
     requires within { k < length ends.now }
     requires ordered { EndsInOrder 0 ends.now (length items.now) }
-    ensures { slice_get (parts 0 ends.now items.now) k ≡ Some result.now }
+    ensures part { slice_get (parts 0 ends.now items.now) k ≡ Some result.now }
+    ensures shorter { length result.now ≤ length items.now }
 {
     let (front, _) = items.split_at(ends[k] as usize);
     let (_, list) = front.split_at(begin(ends, k));

@@ -1,3 +1,4 @@
 pub mod ClauseLemmas
+pub mod CompactedLemmas
 pub mod IndexLemmas
 pub mod TraceLemmas

@@ -1,172 +1,173 @@
--- Traces as three lists side by side.
-use Rattle.std.proofs.Common.{◌≡◌, ◌≢◌, ℕ, zero, suc, ◌+◌, ◌-◌, ◌<◌, ◌≤◌, max, ◌⊎◌, inl, inr, List, [], ◌∷◌, ◌++◌, length, get_or, take, drop, slice_get, Some, refl, sym, ap, ◌∙◌, subst, arith, length-append, Result, Ok, Err, is_err, OnOk, false}
-use Rattle.std.proofs.lemmas.Bool.{cases_order}
-use Rattle.std.proofs.lemmas.List.{take_at, drop_more}
-use Rattle.std.proofs.lemmas.Option.{slice_get_past}
-use Rattle.clause_defs.specs.declared.verdict.TheConstants.{MAX_INDEX}
+-- Traces as lists side by side.
+use Rattle.std.proofs.Common.{◌≡◌, ℕ, zero, suc, ◌+◌, ◌-◌, ◌<◌, ◌≤◌, ◌↔◌, max, Bool, true, false, inl, inr, List, [], ◌∷◌, ◌++◌, length, map, get_or, take, drop, slice_get, Option, Some, None, option_map, refl, sym, ap, ◌∙◌, subst, arith, length-append, Result, Ok, Err, is_err, OnOk, OnErr, IsTrue}
+use Rattle.std.proofs.lemmas.List.{take_at, drop_more, map-append}
+use Rattle.std.proofs.lemmas.Option.{slice_get-map}
+use Rattle.clause_defs.specs.declared.verdict.TheConstants.{MAX_CLAUSES}
 use Rattle.clause_defs.specs.Literals.{Literal}
-use Rattle.clause_defs.specs.Clauses.{Lits, Has, IsClause}
-use Rattle.clause_defs.specs.Traces.{Entry, IsTrace, lits_of, lits_at, antecedents_of, antecedents_at, index_of, index_at}
-use Rattle.sat_values.specs.TraceArrays.{entries_of, greatest_of, greatest_variable, AreTrace}
+use Rattle.clause_defs.specs.Clauses.{Lits, Has}
+use Rattle.clause_defs.specs.Traces.{Entry, IsTrace, IsCompactAt, literals_in, stated_of, stated_at, lits_at, antecedents_at, index_at}
+use Rattle.sat_values.specs.TraceArrays.{stated_unless, entries_of, stated_lits, greatest_of, greatest_variable, AreTrace}
+use Rattle.clause_laws.proofs.TraceLemmas.{CanFollow, IsTrace-push}
 
-abbrev pub entry : ℕ → Lits → List ℕ → Entry
-entry i l a = record { index = i; lits = l; antecedents = a }
+abbrev pub entry : ℕ → Bool → Lits → List ℕ → Entry
+entry i sign l a = record { index = i; stated = stated_unless sign l; antecedents = a }
 
-pub length-entries_of : (is : List ℕ) (ls : List Lits) (ants : List (List ℕ)) → length ls ≡ length is → length ants ≡ length is
-    → length (entries_of is ls ants) ≡ length is
-length-entries_of [] ls ants p q = refl
-length-entries_of (i ∷ is) [] ants p q = absurd (omega arith)
-length-entries_of (i ∷ is) (l ∷ ls) [] p q = absurd (omega arith)
-length-entries_of (i ∷ is) (l ∷ ls) (a ∷ ants) p q = ap suc (length-entries_of is ls ants (omega arith) (omega arith))
+behind_first : (signs : List Bool) (k : ℕ) → get_or (drop 1 signs) k false ≡ get_or signs (suc k) false
+behind_first [] k = refl
+behind_first (b ∷ bs) k = refl
 
-pub index_at-entries_of : (is : List ℕ) (ls : List Lits) (ants : List (List ℕ)) (k : ℕ) → length ls ≡ length is → length ants ≡ length is
-    → k < length is → index_at (entries_of is ls ants) k ≡ get_or is k 0
-index_at-entries_of [] ls ants k p q lt = absurd (omega arith)
-index_at-entries_of (i ∷ is) [] ants k p q lt = absurd (omega arith)
-index_at-entries_of (i ∷ is) (l ∷ ls) [] k p q lt = absurd (omega arith)
-index_at-entries_of (i ∷ is) (l ∷ ls) (a ∷ ants) zero p q lt = refl
-index_at-entries_of (i ∷ is) (l ∷ ls) (a ∷ ants) (suc k) p q lt = index_at-entries_of is ls ants k (omega arith) (omega arith) (omega arith)
+pub length-entries_of : (is : List ℕ) (ls : List Lits) (ants : List (List ℕ)) (signs : List Bool) → length ls ≡ length is → length ants ≡ length is
+    → length (entries_of is ls ants signs) ≡ length is
+length-entries_of [] ls ants signs p q = refl
+length-entries_of (i ∷ is) [] ants signs p q = absurd (omega arith)
+length-entries_of (i ∷ is) (l ∷ ls) [] signs p q = absurd (omega arith)
+length-entries_of (i ∷ is) (l ∷ ls) (a ∷ ants) signs p q = ap suc (length-entries_of is ls ants (drop 1 signs) (omega arith) (omega arith))
 
-pub lits_at-entries_of : (is : List ℕ) (ls : List Lits) (ants : List (List ℕ)) (k : ℕ) (c : Lits) → length ls ≡ length is → length ants ≡ length is
-    → slice_get ls k ≡ Some c → lits_at (entries_of is ls ants) k ≡ c
-lits_at-entries_of is [] ants k c p q e = absurd (cc)
-lits_at-entries_of [] (l ∷ ls) ants k c p q e = absurd (omega arith)
-lits_at-entries_of (i ∷ is) (l ∷ ls) [] k c p q e = absurd (omega arith)
-lits_at-entries_of (i ∷ is) (l ∷ ls) (a ∷ ants) zero c p q e = cc
-lits_at-entries_of (i ∷ is) (l ∷ ls) (a ∷ ants) (suc k) c p q e = lits_at-entries_of is ls ants k c (omega arith) (omega arith) e
+pub index_at-entries_of : (is : List ℕ) (ls : List Lits) (ants : List (List ℕ)) (signs : List Bool) (k : ℕ) → length ls ≡ length is → length ants ≡ length is
+    → k < length is → index_at (entries_of is ls ants signs) k ≡ get_or is k 0
+index_at-entries_of [] ls ants signs k p q lt = absurd (omega arith)
+index_at-entries_of (i ∷ is) [] ants signs k p q lt = absurd (omega arith)
+index_at-entries_of (i ∷ is) (l ∷ ls) [] signs k p q lt = absurd (omega arith)
+index_at-entries_of (i ∷ is) (l ∷ ls) (a ∷ ants) signs zero p q lt = refl
+index_at-entries_of (i ∷ is) (l ∷ ls) (a ∷ ants) signs (suc k) p q lt = index_at-entries_of is ls ants (drop 1 signs) k (omega arith) (omega arith) (omega arith)
 
-pub antecedents_at-entries_of : (is : List ℕ) (ls : List Lits) (ants : List (List ℕ)) (k : ℕ) (ps : List ℕ) → length ls ≡ length is → length ants ≡ length is
-    → slice_get ants k ≡ Some ps → antecedents_at (entries_of is ls ants) k ≡ ps
-antecedents_at-entries_of is ls [] k ps p q e = absurd (cc)
-antecedents_at-entries_of [] ls (a ∷ ants) k ps p q e = absurd (omega arith)
-antecedents_at-entries_of (i ∷ is) [] (a ∷ ants) k ps p q e = absurd (omega arith)
-antecedents_at-entries_of (i ∷ is) (l ∷ ls) (a ∷ ants) zero ps p q e = cc
-antecedents_at-entries_of (i ∷ is) (l ∷ ls) (a ∷ ants) (suc k) ps p q e = antecedents_at-entries_of is ls ants k ps (omega arith) (omega arith) e
+pub antecedents_at-entries_of : (is : List ℕ) (ls : List Lits) (ants : List (List ℕ)) (signs : List Bool) (k : ℕ) (ps : List ℕ) → length ls ≡ length is → length ants ≡ length is
+    → slice_get ants k ≡ Some ps → antecedents_at (entries_of is ls ants signs) k ≡ ps
+antecedents_at-entries_of is ls [] signs k ps p q e = absurd (cc)
+antecedents_at-entries_of [] ls (a ∷ ants) signs k ps p q e = absurd (omega arith)
+antecedents_at-entries_of (i ∷ is) [] (a ∷ ants) signs k ps p q e = absurd (omega arith)
+antecedents_at-entries_of (i ∷ is) (l ∷ ls) (a ∷ ants) signs zero ps p q e = cc
+antecedents_at-entries_of (i ∷ is) (l ∷ ls) (a ∷ ants) signs (suc k) ps p q e = antecedents_at-entries_of is ls ants (drop 1 signs) k ps (omega arith) (omega arith) e
 
-pub entries_of-push : (is : List ℕ) (ls : List Lits) (ants : List (List ℕ)) (i : ℕ) (l : Lits) (a : List ℕ) → length ls ≡ length is → length ants ≡ length is
-    → entries_of (is ++ i ∷ []) (ls ++ l ∷ []) (ants ++ a ∷ []) ≡ entries_of is ls ants ++ entry i l a ∷ []
-entries_of-push [] [] [] i l a p q = refl
-entries_of-push [] [] (b ∷ ants) i l a p q = absurd (omega arith)
-entries_of-push [] (m ∷ ls) ants i l a p q = absurd (omega arith)
-entries_of-push (j ∷ is) [] ants i l a p q = absurd (omega arith)
-entries_of-push (j ∷ is) (m ∷ ls) [] i l a p q = absurd (omega arith)
-entries_of-push (j ∷ is) (m ∷ ls) (b ∷ ants) i l a p q = ap (λ es. entry j m b ∷ es) (entries_of-push is ls ants i l a (omega arith) (omega arith))
+-- what is stated at a place
+pub stated_at-entries_of : (is : List ℕ) (ls : List Lits) (ants : List (List ℕ)) (signs : List Bool) (k : ℕ) → length ls ≡ length is → length ants ≡ length is
+    → k < length is → stated_at (entries_of is ls ants signs) k ≡ stated_unless (get_or signs k false) (get_or ls k [])
+stated_at-entries_of [] ls ants signs k p q lt = absurd (omega arith)
+stated_at-entries_of (i ∷ is) [] ants signs k p q lt = absurd (omega arith)
+stated_at-entries_of (i ∷ is) (l ∷ ls) [] signs k p q lt = absurd (omega arith)
+stated_at-entries_of (i ∷ is) (l ∷ ls) (a ∷ ants) signs zero p q lt = refl
+stated_at-entries_of (i ∷ is) (l ∷ ls) (a ∷ ants) signs (suc k) p q lt =
+    stated_at-entries_of is ls ants (drop 1 signs) k (omega arith) (omega arith) (omega arith)
+    ∙ ap (λ b. stated_unless b (get_or ls k [])) (behind_first signs k)
+
+none_at_sign : (b : Bool) (c : Lits) → IsTrue b ↔ (stated_unless b c ≡ None)
+none_at_sign true c = (λ t. refl, λ e. refl)
+none_at_sign false c = (λ f. absurd (cc), λ e. absurd (cc))
+
+-- the sign stands where the list of signs says so
+pub IsCompactAt-entries_of : (is : List ℕ) (ls : List Lits) (ants : List (List ℕ)) (signs : List Bool) (k : ℕ) → length ls ≡ length is → length ants ≡ length is
+    → k < length is → IsTrue (get_or signs k false) ↔ IsCompactAt (entries_of is ls ants signs) k
+IsCompactAt-entries_of is ls ants signs k p q lt =
+    subst (λ (o : Option Lits). IsTrue (get_or signs k false) ↔ (o ≡ None)) (sym (stated_at-entries_of is ls ants signs k p q lt))
+    (none_at_sign (get_or signs k false) (get_or ls k []))
+
+lits_at_mapped : (o : Option Entry) (c : Lits) → option_map stated_lits o ≡ Some c → literals_in (stated_of o) ≡ c
+lits_at_mapped None c e = absurd (cc)
+lits_at_mapped (Some x) c e = cc
+
+-- the literals that stand at a place of the stated ones
+pub lits_at-stated : (t : List Entry) (ls : List Lits) (k : ℕ) (c : Lits) → ls ≡ map stated_lits t → slice_get ls k ≡ Some c → lits_at t k ≡ c
+lits_at-stated t ls k c are e =
+    lits_at_mapped (slice_get t k) c (sym (slice_get-map stated_lits t k) ∙ ap (λ (xs : List Lits). slice_get xs k) (sym are) ∙ e)
+
+-- lists of signs that say the same of each clause
+pub entries_of-same_signs : (is : List ℕ) (ls : List Lits) (ants : List (List ℕ)) (signs other : List Bool)
+    → ((k : ℕ) → k < length is → get_or other k false ≡ get_or signs k false) → entries_of is ls ants other ≡ entries_of is ls ants signs
+entries_of-same_signs [] ls ants signs other same = refl
+entries_of-same_signs (i ∷ is) [] ants signs other same = refl
+entries_of-same_signs (i ∷ is) (l ∷ ls) [] signs other same = refl
+entries_of-same_signs (i ∷ is) (l ∷ ls) (a ∷ ants) signs other same =
+    let rest = entries_of-same_signs is ls ants (drop 1 signs) (drop 1 other)
+    (λ k lt. behind_first other k ∙ same (suc k) (omega arith) ∙ sym (behind_first signs k)) in
+    let first = same 0 (omega arith) in
+    ap (λ b. entry i b l a ∷ entries_of is ls ants (drop 1 other)) first ∙ ap (λ es. entry i (get_or signs 0 false) l a ∷ es) rest
+
+pub entries_of-push : (is : List ℕ) (ls : List Lits) (ants : List (List ℕ)) (signs : List Bool) (i : ℕ) (l : Lits) (a : List ℕ) → length ls ≡ length is → length ants ≡ length is
+    → entries_of (is ++ i ∷ []) (ls ++ l ∷ []) (ants ++ a ∷ []) signs ≡ entries_of is ls ants signs ++ entry i (get_or signs (length is) false) l a ∷ []
+entries_of-push [] [] [] signs i l a p q = refl
+entries_of-push [] [] (b ∷ ants) signs i l a p q = absurd (omega arith)
+entries_of-push [] (m ∷ ls) ants signs i l a p q = absurd (omega arith)
+entries_of-push (j ∷ is) [] ants signs i l a p q = absurd (omega arith)
+entries_of-push (j ∷ is) (m ∷ ls) [] signs i l a p q = absurd (omega arith)
+entries_of-push (j ∷ is) (m ∷ ls) (b ∷ ants) signs i l a p q =
+    ap (λ es. entry j (get_or signs 0 false) m b ∷ es)
+    (entries_of-push is ls ants (drop 1 signs) i l a (omega arith) (omega arith)
+    ∙ ap (λ s. entries_of is ls ants (drop 1 signs) ++ entry i s l a ∷ []) (behind_first signs (length is)))
 
 -- ---- one more clause
 
-slice_get-before : {X : Type 0} (xs : List X) (y : X) (k : ℕ) → k < length xs → slice_get (xs ++ y ∷ []) k ≡ slice_get xs k
-slice_get-before [] y k lt = absurd (omega arith)
-slice_get-before (x ∷ xs) y zero lt = refl
-slice_get-before (x ∷ xs) y (suc k) lt = slice_get-before xs y k (omega arith)
-
-slice_get-last : {X : Type 0} (xs : List X) (y : X) (k : ℕ) → k ≡ length xs → slice_get (xs ++ y ∷ []) k ≡ Some y
-slice_get-last [] y zero e = refl
-slice_get-last [] y (suc k) e = absurd (omega arith)
-slice_get-last (x ∷ xs) y zero e = absurd (omega arith)
-slice_get-last (x ∷ xs) y (suc k) e = slice_get-last xs y k (omega arith)
-
--- what the new clause of a trace must be
-pub record CanFollow (t : List Entry) (e : Entry) : Type 0 where
-  pub low : 1 ≤ e.index
-  pub high : e.index ≤ MAX_INDEX
-  pub other : (k : ℕ) → k < length t → index_at t k ≢ e.index
-  pub clause : IsClause e.lits
-  pub earlier : (p : ℕ) → Has e.antecedents p → p < length t
-
-earlier_after : (t : List Entry) (e : Entry) → IsTrace t → CanFollow t e → (k p : ℕ) → Has (antecedents_at (t ++ e ∷ []) k) p → p < k
-earlier_after t e h new k p i =
-    elim (cases_order k (length t)) [
-      | inl at ↦ let one = new.earlier p (subst (λ o. Has (antecedents_of o) p) (slice_get-last t e k at) i) in omega arith
-      | inr (inl before) ↦ h.earlier k p (subst (λ o. Has (antecedents_of o) p) (slice_get-before t e k before) i)
-      | inr (inr past) ↦ absurd (subst (λ o. Has (antecedents_of o) p) (slice_get_past (t ++ e ∷ []) k (omega (arith, length-append t (e ∷ [])))) i)
-    ]
-
-clauses_after : (t : List Entry) (e : Entry) → IsTrace t → CanFollow t e → (k : ℕ) → k < length (t ++ e ∷ []) → IsClause (lits_at (t ++ e ∷ []) k)
-clauses_after t e h new k lt =
-    elim (cases_order k (length t)) [
-      | inl at ↦ subst (λ o. IsClause (lits_of o)) (sym (slice_get-last t e k at)) new.clause
-      | inr (inl before) ↦ subst (λ o. IsClause (lits_of o)) (sym (slice_get-before t e k before)) (h.clauses k before)
-      | inr (inr past) ↦ absurd (omega (arith, length-append t (e ∷ [])))
-    ]
-
--- the index at a place is an old one or the new one
-index_after : (t : List Entry) (e : Entry) (k : ℕ) → k < length (t ++ e ∷ [])
-    → ((k < length t) × (index_at (t ++ e ∷ []) k ≡ index_at t k)) ⊎ ((k ≡ length t) × (index_at (t ++ e ∷ []) k ≡ e.index))
-index_after t e k lt =
-    elim (cases_order k (length t)) [
-      | inl at ↦ inr (at, ap index_of (slice_get-last t e k at))
-      | inr (inl before) ↦ inl (before, ap index_of (slice_get-before t e k before))
-      | inr (inr past) ↦ absurd (omega (arith, length-append t (e ∷ [])))
-    ]
-
-low_after : (t : List Entry) (e : Entry) → IsTrace t → CanFollow t e → (k : ℕ) → k < length (t ++ e ∷ []) → 1 ≤ index_at (t ++ e ∷ []) k
-low_after t e h new k lt =
-    elim (index_after t e k lt) [
-      | inl old ↦ omega (arith, old.1, h.low k old.0)
-      | inr one ↦ omega (arith, one.1, new.low)
-    ]
-
-high_after : (t : List Entry) (e : Entry) → IsTrace t → CanFollow t e → (k : ℕ) → k < length (t ++ e ∷ []) → index_at (t ++ e ∷ []) k ≤ MAX_INDEX
-high_after t e h new k lt =
-    elim (index_after t e k lt) [
-      | inl old ↦ omega (arith, old.1, h.high k old.0)
-      | inr one ↦ omega (arith, one.1, new.high)
-    ]
-
-distinct_after : (t : List Entry) (e : Entry) → IsTrace t → CanFollow t e → (j k : ℕ) → j < k → k < length (t ++ e ∷ [])
-    → index_at (t ++ e ∷ []) j ≢ index_at (t ++ e ∷ []) k
-distinct_after t e h new j k lt within same =
-    elim (index_after t e k within) [
-      | inl old ↦ elim (index_after t e j (omega arith)) [
-        | inl first ↦ h.distinct j k lt old.0 (sym first.1 ∙ same ∙ old.1)
-        | inr last ↦ absurd (omega (arith, last.0, old.0))
-      ]
-      | inr one ↦ elim (index_after t e j (omega arith)) [
-        | inl first ↦ new.other j first.0 (sym first.1 ∙ same ∙ one.1)
-        | inr last ↦ absurd (omega (arith, last.0, one.0))
-      ]
-    ]
-
-pub IsTrace-push : (t : List Entry) (e : Entry) → IsTrace t → CanFollow t e → IsTrace (t ++ e ∷ [])
-IsTrace-push t e h new = record {
-  earlier = earlier_after t e h new;
-  clauses = clauses_after t e h new;
-  low = low_after t e h new;
-  high = high_after t e h new;
-  distinct = distinct_after t e h new;
-}
-
-pub greatest_variable-push : (t : List Entry) (e : Entry) → greatest_variable (t ++ e ∷ []) ≡ max (greatest_variable t) (greatest_of e.lits)
+pub greatest_variable-push : (t : List Entry) (e : Entry) → greatest_variable (t ++ e ∷ []) ≡ max (greatest_variable t) (greatest_of (stated_lits e))
 greatest_variable-push [] e = omega arith
 greatest_variable-push (f ∷ t) e = omega (arith, greatest_variable-push t e)
 
--- ---- the arrays
+-- the lists of a trace, and those with one more clause, of which `sign` says whether it has the sign
+pub record Grows (is later : List ℕ) (ls more : List Lits) (ants further : List (List ℕ)) (signs longer : List Bool) (g greatest : ℕ)
+    (i : ℕ) (sign : Bool) (l : Lits) (a : List ℕ) : Type 0 where
+  pub before : AreTrace is ls ants signs g
+  pub follows : CanFollow (entries_of is ls ants signs) (entry i sign l a)
+  pub few : length ls < MAX_CLAUSES
+  pub later_is : later ≡ is ++ i ∷ []
+  pub more_is : more ≡ ls ++ l ∷ []
+  pub further_is : further ≡ ants ++ a ∷ []
+  pub same_signs : (k : ℕ) → k < length is → get_or longer k false ≡ get_or signs k false
+  pub sign_is : get_or longer (length is) false ≡ sign
+  pub few_signs : length longer ≤ length is + 1
+  pub lits_are : l ≡ stated_lits (entry i sign l a)
+  pub greatest_is : greatest ≡ max g (greatest_of l)
 
-pub AreTrace-push : (is later : List ℕ) (ls more : List Lits) (ants further : List (List ℕ)) (g greatest : ℕ) (i : ℕ) (l : Lits) (a : List ℕ) → AreTrace is ls ants g
-    → CanFollow (entries_of is ls ants) (entry i l a) → length is < 2147483647
-    → later ≡ is ++ i ∷ [] → more ≡ ls ++ l ∷ [] → further ≡ ants ++ a ∷ [] → greatest ≡ max g (greatest_of l) → AreTrace later more further greatest
-AreTrace-push is later ls more ants further g greatest i l a h new few e f d r =
-    let grown : entries_of later more further ≡ entries_of is ls ants ++ entry i l a ∷ [] =
-    ap (λ xs. entries_of xs more further) e ∙ ap (λ xs. entries_of (is ++ i ∷ []) xs further) f ∙ ap (entries_of (is ++ i ∷ []) (ls ++ l ∷ [])) d
-    ∙ entries_of-push is ls ants i l a h.as_many_lits h.as_many_antecedents in
-    let p = h.as_many_lits in
-    let q = h.as_many_antecedents in
-    let more_indices : length later ≡ length is + 1 = ap length e ∙ length-append is (i ∷ []) in
-    let more_lits : length more ≡ length ls + 1 = ap length f ∙ length-append ls (l ∷ []) in
-    let more_antecedents : length further ≡ length ants + 1 = ap length d ∙ length-append ants (a ∷ []) in
+-- the entries of the longer lists
+pub entries_of-grown : {is later : List ℕ} {ls more : List Lits} {ants further : List (List ℕ)} {signs longer : List Bool} {g greatest i : ℕ} {sign : Bool} {l : Lits} {a : List ℕ}
+    → Grows is later ls more ants further signs longer g greatest i sign l a
+    → entries_of later more further longer ≡ entries_of is ls ants signs ++ entry i sign l a ∷ []
+entries_of-grown {is} {later} {ls} {more} {ants} {further} {signs} {longer} {g} {greatest} {i} {sign} {l} {a} h =
+    ap (λ xs. entries_of xs more further longer) h.later_is ∙ ap (λ xs. entries_of (is ++ i ∷ []) xs further longer) h.more_is
+    ∙ ap (λ xs. entries_of (is ++ i ∷ []) (ls ++ l ∷ []) xs longer) h.further_is
+    ∙ entries_of-push is ls ants longer i l a h.before.as_many_lits h.before.as_many_antecedents
+    ∙ ap (λ es. es ++ entry i (get_or longer (length is) false) l a ∷ []) (entries_of-same_signs is ls ants signs longer h.same_signs)
+    ∙ ap (λ b. entries_of is ls ants signs ++ entry i b l a ∷ []) h.sign_is
+
+-- the longer lists are those of a trace
+pub AreTrace-grown : {is later : List ℕ} {ls more : List Lits} {ants further : List (List ℕ)} {signs longer : List Bool} {g greatest i : ℕ} {sign : Bool} {l : Lits} {a : List ℕ}
+    → Grows is later ls more ants further signs longer g greatest i sign l a
+    → AreTrace later more further longer greatest
+AreTrace-grown {is} {later} {ls} {more} {ants} {further} {signs} {longer} {g} {greatest} {i} {sign} {l} {a} h =
+    let grown = entries_of-grown h in
+    let p = h.before.as_many_lits in
+    let q = h.before.as_many_antecedents in
+    let few = h.few in
+    let few_signs = h.few_signs in
+    let more_indices : length later ≡ length is + 1 = ap length h.later_is ∙ length-append is (i ∷ []) in
+    let more_lits : length more ≡ length ls + 1 = ap length h.more_is ∙ length-append ls (l ∷ []) in
+    let more_antecedents : length further ≡ length ants + 1 = ap length h.further_is ∙ length-append ants (a ∷ []) in
+    let lits_are : ls ++ l ∷ [] ≡ map stated_lits (entries_of is ls ants signs) ++ stated_lits (entry i sign l a) ∷ [] =
+    ap (λ xs. xs ++ l ∷ []) h.before.lits_are ∙ ap (λ x. map stated_lits (entries_of is ls ants signs) ++ x ∷ []) h.lits_are in
     record {
       as_many_lits = omega arith;
       as_many_antecedents = omega arith;
-      trace = subst IsTrace (sym grown) (IsTrace-push (entries_of is ls ants) (entry i l a) h.trace new);
-      greatest_is = r ∙ ap (λ n. max n (greatest_of l)) h.greatest_is ∙ sym (greatest_variable-push (entries_of is ls ants) (entry i l a)) ∙ ap greatest_variable (sym grown);
+      few_signs = omega arith;
+      trace = subst IsTrace (sym grown) (IsTrace-push (entries_of is ls ants signs) (entry i sign l a) h.before.trace h.follows);
+      lits_are = h.more_is ∙ lits_are ∙ sym (map-append stated_lits (entries_of is ls ants signs) (entry i sign l a ∷ [])) ∙ ap (map stated_lits) (sym grown);
+      greatest_is = h.greatest_is ∙ ap (λ n. max n (greatest_of l)) h.before.greatest_is
+          ∙ ap (λ c. max (greatest_variable (entries_of is ls ants signs)) (greatest_of c)) h.lits_are
+          ∙ sym (greatest_variable-push (entries_of is ls ants signs) (entry i sign l a)) ∙ ap greatest_variable (sym grown);
       few = omega arith;
     }
 
-pub entries_of-pushed : (is later : List ℕ) (ls more : List Lits) (ants further : List (List ℕ)) (i : ℕ) (l : Lits) (a : List ℕ) → length ls ≡ length is → length ants ≡ length is
-    → later ≡ is ++ i ∷ [] → more ≡ ls ++ l ∷ [] → further ≡ ants ++ a ∷ [] → entries_of later more further ≡ entries_of is ls ants ++ entry i l a ∷ []
-entries_of-pushed is later ls more ants further i l a p q e f d =
-    ap (λ xs. entries_of xs more further) e ∙ ap (λ xs. entries_of (is ++ i ∷ []) xs further) f ∙ ap (entries_of (is ++ i ∷ []) (ls ++ l ∷ [])) d
-    ∙ entries_of-push is ls ants i l a p q
+-- the lists of a trace with other signs that say the same of each clause
+pub AreTrace-same_signs : (is : List ℕ) (ls : List Lits) (ants : List (List ℕ)) (signs other : List Bool) (g : ℕ)
+    → ((k : ℕ) → k < length is → get_or other k false ≡ get_or signs k false) → length other ≤ length is
+    → AreTrace is ls ants signs g → AreTrace is ls ants other g
+AreTrace-same_signs is ls ants signs other g same few h =
+    let e = sym (entries_of-same_signs is ls ants signs other same) in
+    record {
+      as_many_lits = h.as_many_lits;
+      as_many_antecedents = h.as_many_antecedents;
+      few_signs = few;
+      trace = subst IsTrace e h.trace;
+      lits_are = h.lits_are ∙ ap (map stated_lits) e;
+      greatest_is = h.greatest_is ∙ ap greatest_variable e;
+      few = h.few;
+    }
 
 -- a clause that was taken away again
 pub take-pushed : {X : Type 0} (xs ys zs : List X) (x : X) → ys ≡ xs ++ x ∷ [] → zs ≡ take (length ys - 1) ys → zs ≡ xs
@@ -184,7 +185,7 @@ greatest_of-within (m ∷ ms) l (inr h) = omega (arith, greatest_of-within ms l 
 
 pub greatest_variable-within : (t : List Entry) (k : ℕ) (l : Literal) → Has (lits_at t k) l → l.variable ≤ greatest_variable t
 greatest_variable-within [] k l h = absurd h
-greatest_variable-within (e ∷ es) zero l h = omega (arith, greatest_of-within e.lits l h)
+greatest_variable-within (e ∷ es) zero l h = omega (arith, greatest_of-within (stated_lits e) l h)
 greatest_variable-within (e ∷ es) (suc k) l h = omega (arith, greatest_variable-within es k l h)
 
 -- the greatest variable from place i on
@@ -198,3 +199,8 @@ greatest_of-drop c i l lt e =
 pub ok_of : {T E : Type 0} (r : Result T E) (P : Type 0) → is_err r ≡ false → OnOk r P → P
 ok_of (Ok x) P e h = h
 ok_of (Err x) P e h = absurd (cc)
+
+-- what holds anyway holds of an error
+pub on_err : {T E : Type 0} (r : Result T E) (P : Type 0) → P → OnErr r P
+on_err (Ok x) P h = tt
+on_err (Err e) P h = h

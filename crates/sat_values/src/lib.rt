@@ -10,6 +10,8 @@ mod clause_index;
 mod clause_set;
 mod clauses;
 mod cnf;
+mod columns;
+mod compaction;
 #[cfg(test)]
 mod tests;
 mod trace;
@@ -17,4 +19,5 @@ mod trace;
 pub use clause_set::ClauseSet;
 pub use clauses::Clauses;
 pub use cnf::Cnf;
+pub use compaction::compact;
 pub use trace::Trace;

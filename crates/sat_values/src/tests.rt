@@ -1,4 +1,4 @@
-use crate::{ClauseSet, Clauses, Trace};
+use crate::{ClauseSet, Clauses, Trace, compact};
 use clause_defs::MAX_VARIABLE;
 use pch_base::{Clause, Lit};
 use std::test::Fail;
@@ -40,10 +40,19 @@ fn a_trace_keeps_its_clauses(rt: HostRuntime) -> Result<(), Fail> {
     assert_eq!(rt; trace.lits(0), clause.lits());
     assert_eq!(rt; trace.antecedents(0).len(), 0);
     assert_eq!(rt; trace.greatest_variable(), 7);
+    trace.push(6, clause.lits(), &[0])?;
+    trace.push_compact(8, &[1])?;
+    trace.push(9, &[], &[2, 0])?;
+    let trace = compact(alloc, trace)?;
+    assert!(rt; !trace.is_compact(0));
+    assert!(rt; trace.is_compact(1));
+    assert_eq!(rt; trace.lits(1).len(), 0);
+    assert!(rt; trace.is_compact(2));
+    assert!(rt; !trace.is_compact(3));
     let (len, greatest) = thread::join(&rt, || trace.len(), || trace.greatest_variable());
-    assert_eq!(rt; len, 1);
+    assert_eq!(rt; len, 4);
     assert_eq!(rt; greatest, 7);
     let there = thread::spawn(&rt, move || trace.len())?;
-    assert_eq!(rt; there.join(&rt), 1);
+    assert_eq!(rt; there.join(&rt), 4);
     Ok(())
 }

@@ -1,23 +1,26 @@
-ghost use Rattle.std.specs.Prelude.{◌≡◌, ◌≢◌, ℕ, ◌^◌, ◌<◌, ◌≤◌, ◌++◌, [], ◌∷◌, length, max, OnOk, OnErr};
+ghost use Rattle.std.specs.Prelude.{◌≡◌, ◌≢◌, ℕ, ◌+◌, ◌^◌, ◌<◌, ◌≤◌, ◌++◌, ◌↔◌, false, IsTrue, [], ◌∷◌, get_or, length, max, vec_len, vec_capacity, Some, None, OnOk, OnErr};
 ghost use Rattle.clause_defs.specs.Literals.{Literal, IsLiteral};
 ghost use Rattle.clause_defs.specs.Clauses.{Has, IsOrdered, IsClause, WithinVariables};
-ghost use Rattle.clause_defs.specs.Traces.{IsTrace, index_at, lits_at, antecedents_at};
+ghost use Rattle.clause_defs.specs.Traces.{IsTrace, IsCompactAt, index_at, lits_at, antecedents_at};
 ghost use Rattle.sat_values.specs.TraceArrays.{greatest_of, greatest_variable};
 
+use crate::columns::Columns;
 use clause_defs::{MAX_CLAUSES, MAX_INDEX};
-use flat_lists::FlatLists;
 use pch_base::{Lit, NoMemory};
 use std::alloc::Global;
 use std::marker::Model;
 
-/// A trace: clauses with indices, literals and antecedents, which are places of earlier clauses.
+/// A trace: clauses with indices, literals and antecedents, which are places of earlier clauses. Where
+/// the sign `*` stands in place of a clause's literals, the clause is what its antecedents give.
 ///
 /// Contracts see it as the list of its entries, of which the type keeps `IsTrace`.
 #[derive(Debug, Drop)]
 pub struct Trace {
-    indices: Vec<u32>,
-    lits: FlatLists<Lit>,
-    antecedents: FlatLists<u32>,
+    // A clause with the sign has no literals here.
+    columns: Columns,
+    // Whether the sign stands, by place; it doesn't past the end, so that a trace with stated literals
+    // alone has none.
+    signs: Vec<bool>,
     greatest: u32,
 }
 
@@ -28,9 +31,9 @@ impl Model for Trace {
 
     ghost Value = { List Entry };
 
-    ghost view = { λ t. entries_of t.indices.items t.lits.lists t.antecedents.lists };
+    ghost view = { λ t. entries_of t.columns.indices.items t.columns.lits.lists t.columns.antecedents.lists t.signs.items };
 
-    ghost invariant = { λ t. AreTrace t.indices.items t.lits.lists t.antecedents.lists t.greatest };
+    ghost invariant = { λ t. AreTrace t.columns.indices.items t.columns.lits.lists t.columns.antecedents.lists t.signs.items t.greatest };
 }
 
 impl Trace {
@@ -39,9 +42,8 @@ impl Trace {
         ensures { result ≡ [] }
     {
         Trace {
-            indices: Vec::new(alloc),
-            lits: FlatLists::new(alloc),
-            antecedents: FlatLists::new(alloc),
+            columns: Columns::new(alloc),
+            signs: Vec::new(alloc),
             greatest: 0,
         }
     }
@@ -52,24 +54,39 @@ impl Trace {
         ensures few { result ≤ MAX_CLAUSES }
         ensures trace { IsTrace self.now }
     {
-        self.lits.len()
+        self.columns.lits.len()
     }
 
     /// The index of the clause at place `k`, counted from 0.
     pub fn index(&self, k: u32) -> u32
         requires { k < length self.now }
-        ensures { result ≡ index_at self.now k }
+        ensures index { result ≡ index_at self.now k }
+        ensures trace { IsTrace self.now }
     {
-        self.indices[k as usize]
+        self.columns.indices[k as usize]
     }
 
-    /// The literals of the clause at place `k`, counted from 0.
+    /// Whether the sign `*` stands in place of the literals of the clause at place `k`, counted from 0.
+    pub fn is_compact(&self, k: u32) -> bool
+        requires { k < length self.now }
+        ensures sign { IsTrue result ↔ IsCompactAt self.now k }
+        ensures trace { IsTrace self.now }
+    {
+        let at = k as usize;
+        if at >= self.signs.len() {
+            return false;
+        }
+        self.signs[at]
+    }
+
+    /// The literals that are stated for the clause at place `k`, counted from 0: none where the sign
+    /// stands.
     pub fn lits(&self, k: u32) -> &[Lit]
         requires { k < length self.now }
         ensures lits { result.now ≡ lits_at self.now k }
         ensures clause { IsClause result.now }
     {
-        self.lits.get(k)
+        self.columns.lits.get(k)
     }
 
     /// The places of the antecedents of the clause at place `k`, counted from 0.
@@ -79,11 +96,10 @@ impl Trace {
         ensures earlier { (p : ℕ) → Has result.now p → p < k }
         ensures few { length result.now < 2 ^ 32 }
     {
-        let _total = self.antecedents.total();
-        self.antecedents.get(k)
+        self.columns.antecedents.get(k)
     }
 
-    /// The greatest variable of the literals, or 0 where there are none.
+    /// The greatest variable of the stated literals, or 0 where there are none.
     pub fn greatest_variable(&self) -> u32
         ensures greatest { result ≡ greatest_variable self.now }
         ensures within { (k : ℕ) → WithinVariables result (lits_at self.now k) }
@@ -91,36 +107,50 @@ impl Trace {
         self.greatest
     }
 
-    /// Appends a clause. After `NoMemory` the trace is as before.
+    /// Appends a clause with stated literals. After `NoMemory` the trace is as before.
     pub fn push(&mut self, index: u32, lits: &[Lit], antecedents: &[u32]) -> Result<(), NoMemory>
         requires low { 1 ≤ index }
         requires high { index ≤ MAX_INDEX }
         requires other { (k : ℕ) → k < length self.old → index_at self.old k ≢ index }
         requires ordered { IsOrdered lits.now }
-        requires few { length antecedents.now ≤ MAX_INDEX }
         requires earlier { (p : ℕ) → Has antecedents.now p → p < length self.old }
-        ensures ok { OnOk result (self.new ≡ self.old ++ record { index = index; lits = lits.now; antecedents = antecedents.now } ∷ []) }
+        ensures ok { OnOk result (self.new ≡ self.old ++ record { index = index; stated = Some lits.now; antecedents = antecedents.now } ∷ []) }
         ensures err { OnErr result (self.new ≡ self.old) }
     {
         let greatest = greatest_with(self.greatest, lits);
-        let literals = u64::from(self.lits.total()) + lits.len() as u64;
-        let places = u64::from(self.antecedents.total()) + antecedents.len() as u64;
-        if self.lits.len() >= MAX_CLAUSES
-            || literals > u64::from(u32::MAX)
-            || places > u64::from(u32::MAX)
-        {
-            return Err(NoMemory);
-        }
-        self.indices.reserve(1)?;
-        self.lits.push(lits)?;
-        if self.antecedents.push(antecedents).is_err() {
-            self.lits.pop();
-            return Err(NoMemory);
-        }
-        self.indices.push_reserved(index);
+        self.columns.push(index, lits, antecedents)?;
         self.greatest = greatest;
         Ok(())
     }
+
+    /// Appends a clause with the sign in place of its literals. After `NoMemory` the trace is as before.
+    pub fn push_compact(&mut self, index: u32, antecedents: &[u32]) -> Result<(), NoMemory>
+        requires low { 1 ≤ index }
+        requires high { index ≤ MAX_INDEX }
+        requires other { (k : ℕ) → k < length self.old → index_at self.old k ≢ index }
+        requires derived { antecedents.now ≢ [] }
+        requires earlier { (p : ℕ) → Has antecedents.now p → p < length self.old }
+        ensures ok { OnOk result (self.new ≡ self.old ++ record { index = index; stated = None; antecedents = antecedents.now } ∷ []) }
+        ensures err { OnErr result (self.new ≡ self.old) }
+    {
+        fill(&mut self.signs, self.columns.indices.len())?;
+        self.columns.push(index, &[], antecedents)?;
+        self.signs.push_reserved(true);
+        Ok(())
+    }
+}
+
+/// Makes the list as long as told by `false`, and makes room for one more.
+fn fill(signs: &mut Vec<bool>, len: usize) -> Result<(), NoMemory>
+    requires { length signs.old.items ≤ len }
+    ensures same { (k : ℕ) → get_or signs.new.items k false ≡ get_or signs.old.items k false }
+    ensures within { length signs.new.items ≤ len }
+    ensures filled { OnOk result (length signs.new.items ≡ len) }
+    ensures room { OnOk result (vec_len signs.new < vec_capacity signs.new) }
+{
+    signs.resize(len, false)?;
+    signs.reserve(1)?;
+    Ok(())
 }
 
 // The greatest of a number and the variables of the literals.

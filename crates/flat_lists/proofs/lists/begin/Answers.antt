@@ -1,5 +1,5 @@
 use Rattle.std.proofs.Common.{arith}
-use Rattle.flat_lists.proofs.PartLemmas.{begin_of_later}
+use Rattle.flat_lists.proofs.EndLemmas.{begin_of_later}
 use Rattle.flat_lists.proofs.lists.begin.Goals as goal
 
 pub returns-else-k-eq0 : goal.returns-else-k-eq0

@@ -1,5 +1,5 @@
 use Rattle.std.proofs.Common.{get_or, length, arith, sym, ap, ◌∙◌, refl, drop, Some}
-use Rattle.flat_lists.proofs.PartLemmas.{begin_le_end, cut-parts}
+use Rattle.flat_lists.proofs.EndLemmas.{begin_le_end, cut-parts}
 use Rattle.flat_lists.proofs.lists.part.Goals as goal
 
 pub split_at-requires : goal.split_at-requires
@@ -13,8 +13,8 @@ split_at-requires-2 g c =
     let cut = c.split_at.ensures.front_len in
     omega arith
 
-pub returns : goal.returns
-returns g c =
+pub returns-clause-part : goal.returns-clause-part
+returns-clause-part g c =
     cut-parts c.args.ends.now c.args.items.now c.args.k c.begin.result (get_or c.args.ends.now c.args.k 0)
     c.requires.ordered c.requires.within c.begin.ensures refl
     ∙ ap Some (ap (drop c.begin.result) (sym c.split_at.ensures.front) ∙ sym c.split_at-2.ensures.back)

@@ -1,6 +1,6 @@
 use Rattle.std.proofs.Common.{◌≡◌, length, sym, ap, ◌∙◌, vec_len}
 use Rattle.flat_lists.specs.Flat.{Flat}
-use Rattle.flat_lists.proofs.PartLemmas.{length-parts}
+use Rattle.flat_lists.proofs.EndLemmas.{length-parts}
 use Rattle.flat_lists.proofs.lists.FlatLists.len.Goals as goal
 
 pub returns : goal.returns

@@ -1,7 +1,7 @@
 use Rattle.std.proofs.Common.{◌≡◌, ◌-◌, length, take, vec_len, ap, ◌∙◌, arith}
 use Rattle.flat_lists.specs.Flat.{Flat}
-use Rattle.flat_lists.specs.Parts.{parts, begin_of}
-use Rattle.flat_lists.proofs.PartLemmas.{length-parts, IsFlat-pop, parts-popped}
+use Rattle.flat_lists.specs.Ends.{parts, begin_of}
+use Rattle.flat_lists.proofs.EndLemmas.{length-parts, IsFlat-pop, parts-popped}
 use Rattle.flat_lists.proofs.lists.FlatLists.pop.Goals as goal
 
 pub invariant_of-self : goal.invariant_of-self

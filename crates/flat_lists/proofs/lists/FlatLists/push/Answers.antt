@@ -1,6 +1,6 @@
 use Rattle.std.proofs.Common.{◌≡◌, length, vec_len, ap, ◌∙◌, arith, ◌++◌, ◌∷◌, []}
 use Rattle.flat_lists.specs.Flat.{Flat, total}
-use Rattle.flat_lists.proofs.PartLemmas.{total-parts, length-parts, IsFlat-push, parts-pushed}
+use Rattle.flat_lists.proofs.EndLemmas.{total-parts, length-parts, IsFlat-push, parts-pushed}
 use Rattle.flat_lists.proofs.lists.FlatLists.push.Goals as goal
 
 pub overflow_cast-len : goal.overflow_cast-len

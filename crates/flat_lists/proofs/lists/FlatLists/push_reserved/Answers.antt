@@ -1,6 +1,6 @@
 use Rattle.std.proofs.Common.{◌≡◌, ◌+◌, ◌≤◌, ◌++◌, ◌∷◌, [], length, arith, ap, ◌∙◌, vec_len, vec_capacity}
 use Rattle.flat_lists.specs.Flat.{Flat}
-use Rattle.flat_lists.proofs.PartLemmas.{shows, after_ok, IsFlat-push, parts-pushed}
+use Rattle.flat_lists.proofs.EndLemmas.{shows, after_ok, IsFlat-push, parts-pushed}
 use Rattle.flat_lists.proofs.lists.FlatLists.push_reserved.Goals as goal
 
 pub push_reserved-requires : goal.push_reserved-requires

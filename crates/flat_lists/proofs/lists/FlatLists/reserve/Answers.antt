@@ -1,5 +1,5 @@
 use Rattle.std.proofs.Common.{arith, vec_capacity}
-use Rattle.flat_lists.proofs.PartLemmas.{shows}
+use Rattle.flat_lists.proofs.EndLemmas.{shows}
 use Rattle.flat_lists.proofs.lists.FlatLists.reserve.Goals as goal
 
 pub returns-clause-list_room : goal.returns-clause-list_room

@@ -1,6 +1,6 @@
 use Rattle.std.proofs.Common.{◌≡◌, length, ap, arith, vec_len}
 use Rattle.flat_lists.specs.Flat.{Flat, total}
-use Rattle.flat_lists.proofs.PartLemmas.{total-parts}
+use Rattle.flat_lists.proofs.EndLemmas.{total-parts}
 use Rattle.flat_lists.proofs.lists.FlatLists.total.Goals as goal
 
 pub returns : goal.returns

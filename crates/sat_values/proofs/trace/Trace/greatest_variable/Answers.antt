@@ -9,4 +9,4 @@ pub returns-clause-within : goal.returns-clause-within
 returns-clause-within c k l h =
     let among = subst (λ t. Has (lits_at t k) l) (sym c.self.view_is) h in
     let greatest_is = c.self.invariant.greatest_is in
-    omega (arith, greatest_variable-within (entries_of c.self.inside.indices.items c.self.inside.lits.lists c.self.inside.antecedents.lists) k l among)
+    omega (arith, greatest_variable-within (entries_of c.self.inside.columns.indices.items c.self.inside.columns.lits.lists c.self.inside.columns.antecedents.lists c.self.inside.signs.items) k l among)

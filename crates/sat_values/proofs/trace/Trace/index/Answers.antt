@@ -4,20 +4,12 @@ use Rattle.clause_defs.specs.Traces.{index_at}
 use Rattle.sat_values.proofs.TraceLemmas.{length-entries_of, index_at-entries_of}
 use Rattle.sat_values.proofs.trace.Trace.index.Goals as goal
 
-pub index-requires : goal.index-requires
-index-requires c =
-    let many = length-entries_of c.self.inside.indices.items c.self.inside.lits.lists c.self.inside.antecedents.lists c.self.invariant.as_many_lits c.self.invariant.as_many_antecedents in
-    let seen = ap length c.self.view_is in
-    let counted = c.self.inside.indices.ok.0 in
-    let within = c.requires in
-    omega arith
-
-pub returns : goal.returns
-returns c =
-    let many = length-entries_of c.self.inside.indices.items c.self.inside.lits.lists c.self.inside.antecedents.lists c.self.invariant.as_many_lits c.self.invariant.as_many_antecedents in
+pub returns-clause-index : goal.returns-clause-index
+returns-clause-index c =
+    let many = length-entries_of c.self.inside.columns.indices.items c.self.inside.columns.lits.lists c.self.inside.columns.antecedents.lists c.self.inside.signs.items c.self.invariant.as_many_lits c.self.invariant.as_many_antecedents in
     let seen = ap length c.self.view_is in
     let within = c.requires in
-    let at : c.args.k < length c.self.inside.indices.items = omega arith in
-    c.index.ensures ∙ get_or_default c.self.inside.indices.items c.args.k c.index.result.now 0 at
-    ∙ sym (index_at-entries_of c.self.inside.indices.items c.self.inside.lits.lists c.self.inside.antecedents.lists c.args.k c.self.invariant.as_many_lits c.self.invariant.as_many_antecedents at)
+    let at : c.args.k < length c.self.inside.columns.indices.items = omega arith in
+    c.index.ensures ∙ get_or_default c.self.inside.columns.indices.items c.args.k c.index.result.now 0 at
+    ∙ sym (index_at-entries_of c.self.inside.columns.indices.items c.self.inside.columns.lits.lists c.self.inside.columns.antecedents.lists c.self.inside.signs.items c.args.k c.self.invariant.as_many_lits c.self.invariant.as_many_antecedents at)
     ∙ ap (λ t. index_at t c.args.k) c.self.view_is

@@ -1,4 +1,4 @@
--- Lists as the parts of one list.
+-- Where the lists in one list end, and what they are.
 use Rattle.std.specs.Prelude.{◌≡◌, ℕ, zero, suc, get_or, ◌-◌, ◌^◌, ◌<◌, ◌≤◌, List, [], ◌∷◌, length, take, drop}
 
 -- the parts of the items that end at these places, the first of which begins at `from`

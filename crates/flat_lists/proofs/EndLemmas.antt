@@ -3,7 +3,7 @@ use Rattle.std.proofs.Common.{◌≡◌, ℕ, zero, suc, ◌+◌, ◌-◌, ◌^�
 use Rattle.std.proofs.lemmas.List.{length-take-le, drop_at, take_all, take-append-le, drop-append-le, take-take, drop-take}
 use Rattle.std.proofs.lemmas.List.Sums.{sum_by-cons}
 use Rattle.flat_lists.specs.Flat.{Flat, total}
-use Rattle.flat_lists.specs.Parts.{parts, begin_of, EndsInOrder, IsFlat}
+use Rattle.flat_lists.specs.Ends.{parts, begin_of, EndsInOrder, IsFlat}
 
 -- no part begins behind the end
 pub begins_before_end : (from : ℕ) (ends : List ℕ) (end : ℕ) → EndsInOrder from ends end → from ≤ end

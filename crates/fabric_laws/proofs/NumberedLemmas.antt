@@ -80,14 +80,6 @@ get_or-joined (suc n) size f i j d h lt within =
     ∙ ap (λ m. get_or (f m) j d) (sym e))
     (cases_lt i n)
 
--- parts that agree below n give the same list
-pub joined-agree : {X : Type 0} (n : ℕ) (f g : ℕ → List X) → ((i : ℕ) → i < n → f i ≡ g i) → joined n f ≡ joined n g
-joined-agree zero f g h = refl
-joined-agree (suc n) f g h =
-    let front : joined n f ≡ joined n g = joined-agree n f g (λ i lt. h i (omega arith)) in
-    let last : f n ≡ g n = h n (omega arith) in
-    cc
-
 -- one more part
 pub joined-more : {X : Type 0} (n : ℕ) (f : ℕ → List X) → joined (n + 1) f ≡ joined n f ++ f n
 joined-more n f = ap (λ m. joined m f) (let e : n + 1 ≡ suc n = omega arith in e)

@@ -1,9 +1,12 @@
 -- Tables as numbers of several words, the most significant one first.
-use Rattle.std.proofs.Common.{◌≡◌, ℕ, suc, ◌+◌, ◌*◌, ◌/◌, ◌^◌, ◌<◌, ◌≤◌, List, [], ◌∷◌, length, get_or, ap, subst, sym, ◌∙◌, arith}
-use Rattle.std.proofs.lemmas.Nat.{pow-add, div-mul-add, mul-le}
-use Rattle.std.proofs.Math.Nat.{div-div-eq-div-mul}
+use Rattle.std.proofs.Common.{◌≡◌, ℕ, zero, suc, ◌+◌, ◌-◌, ◌*◌, ◌/◌, ◌%◌, ◌^◌, ◌<◌, ◌≤◌, ⊎_elim, List, [], ◌∷◌, ◌++◌, length, get_or, refl, ap, subst, sym, ◌∙◌, arith}
+use Rattle.std.proofs.lemmas.Bool.{cases_lt}
+use Rattle.std.proofs.lemmas.List.{length_push, get_or_push, get_or_append_left}
+use Rattle.std.proofs.lemmas.Nat.{pow-add, mul-le, mod-pow-add}
+use Rattle.std.proofs.Math.Nat.{mul_comm, div-one, div-div-eq-div-mul}
 use Rattle.fabric_defs.specs.declared.limits.TheConstants.{MAX_WORD, WORD_BITS}
 use Rattle.fabric_defs.specs.Configurations.{number_behind}
+use Rattle.fabric_laws.specs.TableWords.{words_of}
 
 -- words that fit their bits
 abbrev pub AreWords : List ℕ → Type 0
@@ -33,15 +36,48 @@ number_behind-lt n (w ∷ ws) h =
     let P : ℕ → Type 0 = λ m. number_behind (n * 2 ^ WORD_BITS + w) ws < (n + 1) * 2 ^ (WORD_BITS * m) in
     subst P (sym e) (rw more (omega arith))
 
--- the number before the words stands above their bits
-pub number_behind-above : (n : ℕ) (ws : List ℕ) → AreWords ws → number_behind n ws / 2 ^ (WORD_BITS * length ws) ≡ n
-number_behind-above n [] h = omega arith
-number_behind-above n (w ∷ ws) h =
-    let first : w ≤ MAX_WORD = h 0 (omega arith) in
-    let m : ℕ = number_behind (n * 2 ^ WORD_BITS + w) ws in
-    let e : length (w ∷ ws) ≡ length ws + 1 = omega arith in
-    ap (λ i. m / 2 ^ (WORD_BITS * i)) e
-    ∙ ap (λ d. m / d) (word_bits-more (length ws))
-    ∙ sym (div-div-eq-div-mul m (2 ^ (WORD_BITS * length ws)) (2 ^ WORD_BITS))
-    ∙ ap (λ d. d / 2 ^ WORD_BITS) (number_behind-above (n * 2 ^ WORD_BITS + w) ws (AreWords-rest w ws h))
-    ∙ div-mul-add n (2 ^ WORD_BITS) w (omega arith)
+-- one more word behind the others
+pub number_behind-push : (n : ℕ) (ws : List ℕ) (w : ℕ) → number_behind n (ws ++ w ∷ []) ≡ number_behind n ws * 2 ^ WORD_BITS + w
+number_behind-push n [] w = refl
+number_behind-push n (v ∷ ws) w = number_behind-push (n * 2 ^ WORD_BITS + v) ws w
+
+-- there are as many words as were asked for
+pub length-words_of : (n number : ℕ) → length (words_of n number) ≡ n
+length-words_of zero number = refl
+length-words_of (suc n) number =
+    length_push (words_of n (number / 2 ^ WORD_BITS)) (number % 2 ^ WORD_BITS)
+    ∙ omega (arith, length-words_of n (number / 2 ^ WORD_BITS))
+
+-- word j of them
+pub get_or-words_of : (n number j : ℕ) → j < n
+    → get_or (words_of n number) j 0 ≡ number / 2 ^ (WORD_BITS * (n - 1 - j)) % 2 ^ WORD_BITS
+get_or-words_of zero number j lt = absurd (omega arith)
+get_or-words_of (suc n) number j lt =
+    let front : List ℕ = words_of n (number / 2 ^ WORD_BITS) in
+    let long : length front ≡ n = length-words_of n (number / 2 ^ WORD_BITS) in
+    ⊎_elim
+    (λ here. let more : suc n - 1 - j ≡ n - 1 - j + 1 = omega arith in
+    get_or_append_left front (number % 2 ^ WORD_BITS ∷ []) 0 j (omega arith)
+    ∙ get_or-words_of n (number / 2 ^ WORD_BITS) j here
+    ∙ ap (λ d. d % 2 ^ WORD_BITS) (div-div-eq-div-mul number (2 ^ WORD_BITS) (2 ^ (WORD_BITS * (n - 1 - j))))
+    ∙ ap (λ d. number / d % 2 ^ WORD_BITS)
+    (mul_comm (2 ^ WORD_BITS) (2 ^ (WORD_BITS * (n - 1 - j))) ∙ sym (word_bits-more (n - 1 - j)))
+    ∙ ap (λ m. number / 2 ^ (WORD_BITS * m) % 2 ^ WORD_BITS) (sym more))
+    (λ past. let last : j ≡ n = omega arith in
+    let none : suc n - 1 - j ≡ 0 = omega arith in
+    get_or_push front (number % 2 ^ WORD_BITS) 0 j (long ∙ sym last)
+    ∙ ap (λ d. d % 2 ^ WORD_BITS) (sym (div-one number))
+    ∙ ap (λ m. number / 2 ^ (WORD_BITS * m) % 2 ^ WORD_BITS) (sym none))
+    (cases_lt j n)
+
+-- the words of a number spell its least bits
+pub number_behind-words_of : (n number : ℕ) → number_behind 0 (words_of n number) ≡ number % 2 ^ (WORD_BITS * n)
+number_behind-words_of zero number = omega arith
+number_behind-words_of (suc n) number =
+    let high : number_behind 0 (words_of n (number / 2 ^ WORD_BITS)) ≡ number / 2 ^ WORD_BITS % 2 ^ (WORD_BITS * n) =
+    number_behind-words_of n (number / 2 ^ WORD_BITS) in
+    let size : WORD_BITS * n + WORD_BITS ≡ WORD_BITS * suc n = omega arith in
+    number_behind-push 0 (words_of n (number / 2 ^ WORD_BITS)) (number % 2 ^ WORD_BITS)
+    ∙ ap (λ m. m * 2 ^ WORD_BITS + number % 2 ^ WORD_BITS) high
+    ∙ sym (mod-pow-add number (WORD_BITS * n) WORD_BITS)
+    ∙ ap (λ m. number % 2 ^ m) size

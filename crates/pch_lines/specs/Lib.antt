@@ -1,0 +1,6 @@
+pub mod Commands
+pub mod FaultLines
+pub mod Files
+pub mod Lines
+pub mod RefusalLines
+pub mod Words

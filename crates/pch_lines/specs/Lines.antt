@@ -1,0 +1,14 @@
+-- The lines that the program prints: words with one blank between them, and a line feed.
+use Rattle.std.specs.Prelude.{ℕ, List, [], ◌∷◌, ◌++◌, decimal}
+
+-- the text with a blank and one word more
+abbrev pub and_word : List ℕ → List ℕ → List ℕ
+and_word text word = text ++ 32 ∷ word
+
+-- the text with a blank and one number more
+abbrev pub and_number : List ℕ → ℕ → List ℕ
+and_number text n = and_word text (decimal n)
+
+-- the text with a line feed
+abbrev pub ended : List ℕ → List ℕ
+ended text = text ++ 10 ∷ []

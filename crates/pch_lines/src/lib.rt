@@ -1,0 +1,25 @@
+//! The words of a command line as commands, and the lines that the program prints.
+//!
+//! `words` finds the command that words have the form of; `specs/Words` has the forms, and
+//! `specs/Files` which files each command loads and saves. The other files make one line each from an
+//! error, a verdict or a refusal; `specs/FaultLines` and `specs/RefusalLines` have the same lines as
+//! lists of bytes.
+#![tactic(auto)]
+
+mod bundle_lines;
+mod command;
+mod design_lines;
+mod formula_lines;
+mod limits;
+mod line;
+mod refusal_lines;
+mod words;
+
+pub use bundle_lines::{bundle_line, config_line, miter_error_line};
+pub use command::{Command, NamedFile};
+pub use design_lines::{network_line, text_line};
+pub use formula_lines::{cnf_line, trace_line};
+pub use limits::{MAX_BUNDLE_BYTES, MAX_WORKERS};
+pub use line::Line;
+pub use refusal_lines::{refusal_line, verdict_line};
+pub use words::command_of;

@@ -41,7 +41,6 @@ pub fn print_bundle(
 fn append_geometry(out: &mut Vec<u8>, g: Geometry) -> Result<(), NoMemory>
     ensures { OnOk result (out.new.items ≡ out.old.items ++ geometry_bytes g) }
 {
-    g.known();
     append_small_number(out, g.c() as u16)?;
     append_small_number(out, g.r() as u16)?;
     append_small_number(out, g.t() as u16)?;

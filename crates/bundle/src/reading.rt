@@ -3,6 +3,7 @@ ghost use Rattle.fabric_defs.specs.Geometries.{IsGeometry};
 ghost use Rattle.fabric_defs.specs.declared.kind.CellKind.TheVariants.{FourInputs};
 ghost use Rattle.bundle_defs.specs.Bundles.{kind_of_version};
 ghost use Rattle.bundle_defs.specs.Faults.{HasVersion, HasHead, HasItsLength, HasItsDigest, BundleOf, number_at, version_in, geometry_in, config_length};
+ghost use Rattle.fabric.specs.Geometry.{of_kind};
 ghost use Rattle.bundle.specs.Values.{Gives};
 
 use crate::layout::{DIGEST_BYTES, HEAD_BYTES, LAST_VERSION, LENGTH_BYTES, SIX_INPUTS_VERSION};
@@ -84,13 +85,13 @@ fn geometry_at(b: &[u8], version: u16) -> Option<Geometry>
         u32::from(small_number_at(b, 12)),
         u32::from(small_number_at(b, 14)),
     )?;
-    Some(of_kind(geometry, version))
+    Some(with_kind(geometry, version))
 }
 
 /// The geometry of cells of four inputs, with the kind that the version tells.
-fn of_kind(geometry: Geometry, version: u16) -> Geometry
+fn with_kind(geometry: Geometry, version: u16) -> Geometry
     requires { geometry.kind ≡ FourInputs }
-    ensures { result ≡ record geometry { kind = kind_of_version version } }
+    ensures { result ≡ of_kind (kind_of_version version) geometry }
 {
     if version == SIX_INPUTS_VERSION {
         geometry.six()

@@ -77,7 +77,7 @@ earlier_after t e h new k p i =
     ]
 
 -- a fact of the clause at a place is one of the old clause there, or of the new one
-each_after : (P : Option Entry → Type 0) (t : List Entry) (e : Entry) → ((k : ℕ) → k < length t → P (slice_get t k)) → P (Some e)
+pub each_after : (P : Option Entry → Type 0) (t : List Entry) (e : Entry) → ((k : ℕ) → k < length t → P (slice_get t k)) → P (Some e)
     → (k : ℕ) → k < length (t ++ e ∷ []) → P (slice_get (t ++ e ∷ []) k)
 each_after P t e h new k lt =
     elim (cases_order k (length t)) [

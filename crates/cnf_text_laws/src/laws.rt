@@ -1,20 +1,16 @@
-ghost use Rattle.std.specs.Prelude.{◌≡◌, ℕ, ◌<◌, ◌≤◌, ◌^◌, ◌↔◌, ◌⊎◌, List, Some, Ok, Err};
+ghost use Rattle.std.specs.Prelude.{◌≡◌, ℕ, ◌≤◌, ◌↔◌, ◌⊎◌, List, Some, Ok, Err};
 ghost use Rattle.clause_defs.specs.declared.verdict.TheConstants.{MAX_VARIABLE};
-ghost use Rattle.clause_defs.specs.Literals.{Literal};
-ghost use Rattle.sat_text_defs.specs.declared.fault.CnfFault.{CnfFault};
-ghost use Rattle.sat_text_defs.specs.Spellings.{number_in, literal_in};
 ghost use Rattle.clause_defs.specs.Formulas.{Formula};
+ghost use Rattle.clause_defs.specs.Literals.{Literal};
+ghost use Rattle.sat_text_defs.specs.declared.errors.CnfError.{CnfError};
 ghost use Rattle.sat_text_defs.specs.CnfReading.{cnf_in};
-ghost use Rattle.cnf_text_laws.specs.CnfGrammar.{IsNumberWord, IsLiteralWord, EachWithin, CnfText, CnfTextFault};
-
-/// The number from 0 to a limit that is computed of a word is the one that the word spells.
-pub fn number_words_are_spelled()
-    ensures { (max n : ℕ) (w : List ℕ) → 9 ≤ max → max < 2 ^ 64 → (number_in max w ≡ Some n) ↔ IsNumberWord max w n }
-{}
+ghost use Rattle.sat_text_defs.specs.CnfText.{CnfText, CnfTextFault, EachWithin};
+ghost use Rattle.sat_text_defs.specs.Spellings.{literal_in};
+ghost use Rattle.sat_text_defs.specs.Words.{SpellsLiteral};
 
 /// The literal that is computed of a word is the one that the word spells.
 pub fn literal_words_are_spelled()
-    ensures { (w : List ℕ) (l : Literal) → (literal_in w ≡ Some l) ↔ IsLiteralWord w l }
+    ensures { (w : List ℕ) (l : Literal) → (literal_in w ≡ Some l) ↔ SpellsLiteral w l }
 {}
 
 /// The CNF of a text has at most as many variables as a CNF may have, and its clauses are over them.
@@ -28,15 +24,17 @@ pub fn cnf_of_a_text_is_computed()
     ensures { (text : List ℕ) (f : Formula) → (cnf_in text ≡ Ok f) ↔ CnfText text f }
 {}
 
-/// The fault that is computed of a text is the one that the text has.
+/// The fault that is computed of a text is the one that the text has: too many bytes, the first token
+/// that can't stand where it does or is out of range, an end inside the header or a clause, or else
+/// another number of clauses than the header says.
 pub fn fault_of_a_text_is_computed()
-    ensures { (text : List ℕ) (e : CnfFault) → (cnf_in text ≡ Err e) ↔ CnfTextFault text e }
+    ensures { (text : List ℕ) (e : CnfError) → (cnf_in text ≡ Err e) ↔ CnfTextFault text e }
 {}
 
 /// A text has one CNF, or else one fault.
 pub fn text_has_one_cnf_or_fault()
-    ensures some { (text : List ℕ) → ((f : Formula) × CnfText text f) ⊎ ((e : CnfFault) × CnfTextFault text e) }
+    ensures some { (text : List ℕ) → ((f : Formula) × CnfText text f) ⊎ ((e : CnfError) × CnfTextFault text e) }
     ensures one_cnf { (text : List ℕ) (f g : Formula) → CnfText text f → CnfText text g → f ≡ g }
-    ensures one_fault { (text : List ℕ) (d e : CnfFault) → CnfTextFault text d → CnfTextFault text e → d ≡ e }
-    ensures not_both { (text : List ℕ) (f : Formula) (e : CnfFault) → CnfText text f → CnfTextFault text e → ⊥ }
+    ensures one_fault { (text : List ℕ) (d e : CnfError) → CnfTextFault text d → CnfTextFault text e → d ≡ e }
+    ensures not_both { (text : List ℕ) (f : Formula) (e : CnfError) → CnfText text f → CnfTextFault text e → ⊥ }
 {}

@@ -1,4 +1,4 @@
-use Rattle.cnf_text_laws.proofs.WordLemmas.{literal_in-word, word_literal}
+use Rattle.sat_text_defs.proofs.WordLemmas.{literal_in-word, word_literal}
 use Rattle.cnf_text_laws.proofs.laws.literal_words_are_spelled.Goals as goal
 
 pub returns : goal.returns

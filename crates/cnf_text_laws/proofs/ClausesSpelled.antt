@@ -9,9 +9,9 @@ use Rattle.text_defs.specs.Tokens.{Token}
 use Rattle.sat_text_defs.specs.Words.{words_of, zero_word, literal_word}
 use Rattle.sat_text_defs.specs.CnfReading.{clauses_from}
 use Rattle.clause_laws.proofs.ClauseOf.{IsOrdered-clause_of, SameSet-clause_of, clause_of-ordered}
-use Rattle.cnf_text_laws.specs.CnfGrammar.{clause_words, IsSpelled, AreSpelled}
-use Rattle.cnf_text_laws.proofs.StepLemmas.{Has-snoc}
-use Rattle.cnf_text_laws.proofs.BodyLemmas.{kind, step_zero, step_literal, step_out, step_bad}
+use Rattle.sat_text_defs.specs.CnfText.{clause_words, IsSpelled, AreSpelled}
+use Rattle.clause_laws.proofs.TraceLemmas.{Has-snoc}
+use Rattle.cnf_text_laws.proofs.ClauseTokens.{kind, step_zero, step_literal, step_out, step_bad}
 
 -- ---- from what is read
 

@@ -3,11 +3,12 @@ use Rattle.std.proofs.Common.{◌≡◌, ℕ, ◌<◌, ◌≤◌, inl, inr, List
 use Rattle.std.proofs.lemmas.Bool.{cases_lt}
 use Rattle.clause_defs.specs.declared.verdict.TheConstants.{MAX_VARIABLE}
 use Rattle.text_defs.specs.Tokens.{Token}
-use Rattle.cnf_text_laws.specs.CnfGrammar.{IsNumberWord, IsClauseWord, CanStand, IsOutOfRange, IsRight, EachRight}
-use Rattle.cnf_text_laws.proofs.OrderLemmas.{BeginsBehind, AllBehind}
-use Rattle.cnf_text_laws.proofs.WordLemmas.{one_number}
-use Rattle.cnf_text_laws.proofs.BodyLemmas.{RightWord, Outside, AllRight, clause_word, not_outside}
-use Rattle.cnf_text_laws.proofs.HeaderLemmas.{Headed, max_variable}
+use Rattle.sat_text_defs.specs.CnfText.{IsClauseWord, CanStand, IsOutOfRange, IsRight, EachRight}
+use Rattle.sat_text_defs.specs.Words.{SpellsNumber}
+use Rattle.cnf_text_laws.proofs.TokenOrder.{BeginsBehind, AllBehind}
+use Rattle.cnf_text_laws.proofs.HeaderWords.{one_number}
+use Rattle.cnf_text_laws.proofs.ClauseTokens.{RightWord, Outside, AllRight, clause_word, not_outside}
+use Rattle.cnf_text_laws.proofs.HeaderTokens.{Headed, max_variable}
 
 abbrev pub Each : (List Token → Token → Type 0) → List Token → Type 0
 Each P ts = (before : List Token) (t : Token) (after : List Token) → ts ≡ before ++ (t ∷ after) → P before t
@@ -98,7 +99,7 @@ word_right : (v : ℕ) (w : List ℕ) → IsClauseWord w → (Outside v w → �
 word_right v w (inl z) h = inl z
 word_right v w (inr k) h = elim (cases_lt v k.0.variable) [ inl lt ↦ absurd (h (k.0, k.1, lt)) | inr le ↦ inr (k.0, k.1, le) ]
 
-right_word : (line : ℕ) (p c d n : Token) (v : ℕ) → IsNumberWord MAX_VARIABLE d.bytes v → (before : List Token) (t : Token)
+right_word : (line : ℕ) (p c d n : Token) (v : ℕ) → SpellsNumber MAX_VARIABLE d.bytes v → (before : List Token) (t : Token)
     → IsRight line (p ∷ c ∷ d ∷ n ∷ before) t → RightWord v t.bytes
 right_word line p c d n v num before t h = word_right v t.bytes h.0.1 (λ o. h.1 (v, num, o))
 
@@ -107,12 +108,12 @@ all_of P v f [] h = tt
 all_of P v f (t ∷ ts) h =
     (f [] t (each_head P t ts h), all_of (λ before. P (t ∷ before)) v (λ before u k. f (t ∷ before) u k) ts (each_tail P t ts h))
 
-pub all_of_each : (line : ℕ) (p c d n : Token) (ts : List Token) (v : ℕ) → IsNumberWord MAX_VARIABLE d.bytes v → EachRight line (p ∷ c ∷ d ∷ n ∷ ts) → AllRight v ts
+pub all_of_each : (line : ℕ) (p c d n : Token) (ts : List Token) (v : ℕ) → SpellsNumber MAX_VARIABLE d.bytes v → EachRight line (p ∷ c ∷ d ∷ n ∷ ts) → AllRight v ts
 all_of_each line p c d n ts v num h =
     all_of (λ us. IsRight line (p ∷ c ∷ d ∷ n ∷ us)) v (right_word line p c d n v num) ts (tail4 line p c d n ts h)
 
 -- what is outside the header's variables
-pub outside_of : (p c d n : Token) (us : List Token) (t : Token) (v : ℕ) → IsNumberWord MAX_VARIABLE d.bytes v → IsOutOfRange (p ∷ c ∷ d ∷ n ∷ us) t → Outside v t.bytes
+pub outside_of : (p c d n : Token) (us : List Token) (t : Token) (v : ℕ) → SpellsNumber MAX_VARIABLE d.bytes v → IsOutOfRange (p ∷ c ∷ d ∷ n ∷ us) t → Outside v t.bytes
 outside_of p c d n us t v num o =
     let same : o.0 ≡ v = one_number MAX_VARIABLE d.bytes o.0 v max_variable o.1 num in
     let lt : o.0 < o.2.0.variable = o.2.2 in

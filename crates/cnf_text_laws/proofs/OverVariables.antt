@@ -4,8 +4,8 @@ use Rattle.clause_defs.specs.declared.verdict.TheConstants.{MAX_VARIABLE}
 use Rattle.clause_defs.specs.Clauses.{Lits, WithinVariables}
 use Rattle.clause_defs.specs.Formulas.{Formula}
 use Rattle.sat_text_defs.specs.CnfReading.{cnf_in}
-use Rattle.cnf_text_laws.specs.CnfGrammar.{AreSpelled, EachWithin}
-use Rattle.cnf_text_laws.proofs.ValueLemmas.{text_of_cnf_in}
+use Rattle.sat_text_defs.specs.CnfText.{AreSpelled, EachWithin}
+use Rattle.cnf_text_laws.proofs.CnfsRead.{text_of_cnf_in}
 
 spelled_within : (v : ℕ) (spelled cs : List Lits) → AreSpelled v spelled cs → EachWithin v cs
 spelled_within v [] [] h c none = absurd none

@@ -1,36 +1,35 @@
 -- The CNF that is computed of a text is the one whose text it is.
 use Rattle.std.proofs.Common.{◌≡◌, ℕ, ◌<◌, ◌≤◌, inl, inr, ◌==◌, true, false, nat_lt, List, [], ◌∷◌, ◌++◌, length, decimal, Result, Ok, Err, refl, sym, ap, subst, ◌∙◌}
-use Rattle.std.proofs.Math.Seq.{drop-length}
 use Rattle.std.proofs.lemmas.Bool.{cases_Bool, eqb-true, eq-eqb, ltb-true, ltb-false, lt-ltb, le-ltb}
 use Rattle.clause_defs.specs.declared.verdict.TheConstants.{MAX_VARIABLE, MAX_CLAUSES}
 use Rattle.clause_defs.specs.Clauses.{Lits, Has}
 use Rattle.text_defs.specs.Tokens.{Token}
-use Rattle.sat_text_defs.specs.declared.fault.TheConstants.{MAX_CNF_BYTES}
-use Rattle.sat_text_defs.specs.declared.fault.CnfFault.{CnfFault}
-use Rattle.sat_text_defs.specs.declared.fault.CnfFault.TheVariants.{TooLong, Syntax, Count}
+use Rattle.sat_text_defs.specs.declared.limits.TheConstants.{MAX_CNF_BYTES}
+use Rattle.sat_text_defs.specs.declared.errors.CnfError.{CnfError}
+use Rattle.sat_text_defs.specs.declared.errors.CnfError.TheVariants.{TooLong, Syntax, Count}
 use Rattle.sat_text_defs.specs.Words.{words_of}
-use Rattle.sat_text_defs.specs.TraceReading.{◌>>=◌}
-use Rattle.sat_text_defs.specs.CnfText.{tokens_of, line_end}
+use Rattle.text_defs.specs.Steps.{◌>>=◌}
+use Rattle.sat_text_defs.specs.CnfText.{tokens_of}
 use Rattle.clause_defs.specs.Formulas.{Formula}
-use Rattle.sat_text_defs.specs.CnfReading.{clauses_from, counted, header_in, Header, cnf_from, header_line, cnf_in}
-use Rattle.cnf_text_laws.specs.CnfGrammar.{p_word, cnf_word, header_words, AreSpelled, header_end, SpellsFormula, CnfText}
-use Rattle.cnf_text_laws.proofs.StepLemmas.{bind_ok, guard_ok}
-use Rattle.cnf_text_laws.proofs.HeaderLemmas.{Headed, headed_alone}
-use Rattle.cnf_text_laws.proofs.OrderLemmas.{InOrder, tokens_in_order, all_behind, each_is_behind, begins_each}
-use Rattle.cnf_text_laws.proofs.AnswerLemmas.{Good, answer}
-use Rattle.cnf_text_laws.proofs.ClauseListLemmas.{spells_from, reads_clauses}
+use Rattle.sat_text_defs.specs.CnfReading.{clauses_from, counted, header_in, Header, cnf_from, cnf_in}
+use Rattle.sat_text_defs.specs.CnfText.{p_word, cnf_word, header_words, AreSpelled, header_end, SpellsFormula, CnfText}
+use Rattle.text_defs.proofs.StepLemmas.{bind_ok, guard_ok}
+use Rattle.cnf_text_laws.proofs.HeaderTokens.{Headed, headed_alone}
+use Rattle.cnf_text_laws.proofs.TokenOrder.{InOrder, tokens_in_order, all_behind, each_is_behind, begins_each}
+use Rattle.cnf_text_laws.proofs.HeaderOrNot.{Good, answer}
+use Rattle.cnf_text_laws.proofs.ClausesSpelled.{spells_from, reads_clauses}
 
 -- ---- what goes on behind the header
 
-abbrev pub behind_header : ℕ → Header → Result Formula CnfFault
+abbrev pub behind_header : ℕ → Header → Result Formula CnfError
 behind_header end h = clauses_from h.variables end h.rest [] [] >>= λ fs. counted h.variables h.clauses fs
 
 pub cnf_from-good : (end line : ℕ) (ts : List Token) (v k : ℕ) (body : List Token) → header_in end line ts ≡ Ok (record { variables = v; clauses = k; rest = body })
     → cnf_from end line ts ≡ (clauses_from v end body [] [] >>= λ fs. counted v k fs)
-cnf_from-good end line ts v k body e = ap {B = Result Formula CnfFault} (λ r. r >>= behind_header end) e
+cnf_from-good end line ts v k body e = ap {B = Result Formula CnfError} (λ r. r >>= behind_header end) e
 
-pub cnf_from-stops : (end line : ℕ) (ts : List Token) (e : CnfFault) → header_in end line ts ≡ Err e → cnf_from end line ts ≡ Err e
-cnf_from-stops end line ts e h = ap {B = Result Formula CnfFault} (λ r. r >>= behind_header end) h
+pub cnf_from-stops : (end line : ℕ) (ts : List Token) (e : CnfError) → header_in end line ts ≡ Err e → cnf_from end line ts ≡ Err e
+cnf_from-stops end line ts e h = ap {B = Result Formula CnfError} (λ r. r >>= behind_header end) h
 
 pub counted-same : (v : ℕ) (fs : List Lits) (k : ℕ) → length fs ≡ k → counted v k fs ≡ Ok (record { variables = v; clauses = fs })
 counted-same v fs k e = let test : (length fs == k) ≡ true = eq-eqb (length fs) k e in rw test refl
@@ -48,8 +47,8 @@ headed_words : (line : ℕ) (p c d n : Token) (v k m : ℕ) → Headed line p c 
 headed_words line p c d n v k m h e =
     let a : p.bytes ≡ p_word = h.first.1 in
     let b : c.bytes ≡ cnf_word = h.second.1 in
-    let x : d.bytes ≡ decimal v = h.third.1.1 in
-    let y : n.bytes ≡ decimal m = h.fourth.1.1 ∙ ap decimal (sym e) in
+    let x : d.bytes ≡ decimal v = h.third.1.0 in
+    let y : n.bytes ≡ decimal m = h.fourth.1.0 ∙ ap decimal (sym e) in
     cc
 
 spells_good : (end line : ℕ) (ts : List Token) → InOrder ts → (g : Good end line ts) (fs : List Lits) → clauses_from g.variables end g.body [] [] ≡ Ok fs
@@ -63,8 +62,8 @@ spells_good end line ts o g fs read count =
       words = headed_words line g.p g.c g.d g.n g.variables g.clauses (length fs) g.headed count;
       on_line = before_line line g.p g.c g.d g.n g.variables g.clauses g.headed;
       alone = each_is_behind line g.body (all_behind line g.body (subst (λ (x : List Token). InOrder x) g.parts o).1.1.1.1 g.alone);
-      variables = g.headed.third.1.0;
-      clauses = subst (λ (k : ℕ). k ≤ MAX_CLAUSES) (sym count) g.headed.fourth.1.0;
+      variables = g.headed.third.1.1;
+      clauses = subst (λ (k : ℕ). k ≤ MAX_CLAUSES) (sym count) g.headed.fourth.1.1;
       spelled = s.spelled;
       same_clauses = subst (λ (x : List Lits). AreSpelled g.variables s.spelled x) (sym s.same) s.each;
       same_words = s.words;
@@ -113,8 +112,8 @@ four_tokens line (p ∷ c ∷ d ∷ n ∷ []) v k e h i j =
       headed = record {
         first = (h p (inl refl), a);
         second = (h c (inr (inl refl)), b);
-        third = (h d (inr (inr (inl refl))), (i, x));
-        fourth = (h n (inr (inr (inr (inl refl)))), (j, y));
+        third = (h d (inr (inr (inl refl))), (x, i));
+        fourth = (h n (inr (inr (inr (inl refl)))), (y, j));
       };
     }
 four_tokens line (p ∷ c ∷ d ∷ n ∷ t ∷ ts) v k e h i j = absurd (cc)
@@ -126,23 +125,20 @@ computed_spells end line ts f s =
     let header = headed_alone end line four.p four.c four.d four.n s.body f.variables (length f.clauses) four.headed (begins_each line s.body s.alone) in
     ap (λ (us : List Token). cnf_from end line us) same
     ∙ cnf_from-good end line (four.p ∷ four.c ∷ four.d ∷ four.n ∷ s.body) f.variables (length f.clauses) s.body header
-    ∙ ap {B = Result Formula CnfFault} (λ r. r >>= λ fs. counted f.variables (length f.clauses) fs)
+    ∙ ap {B = Result Formula CnfError} (λ r. r >>= λ fs. counted f.variables (length f.clauses) fs)
     (reads_clauses f.variables end s.spelled f.clauses s.body [] s.same_clauses s.same_words)
     ∙ counted-same f.variables f.clauses (length f.clauses) refl
 
 -- ---- texts
 
-pub header_line-end : (text : List ℕ) (ts : List Token) → header_line text ts ≡ header_end text ts
-header_line-end text [] = ap (line_end (length text)) (drop-length text)
-header_line-end text (t ∷ ts) = refl
-
+-- what is read of a text that isn't too long
 pub cnf_in-short : (text : List ℕ) → length text ≤ MAX_CNF_BYTES
     → cnf_in text ≡ cnf_from (length text) (header_end text (tokens_of text)) (tokens_of text)
 cnf_in-short text h =
     let test : nat_lt MAX_CNF_BYTES (length text) ≡ false = le-ltb MAX_CNF_BYTES (length text) h in
-    let computes : cnf_in text ≡ cnf_from (length text) (header_line text (tokens_of text)) (tokens_of text) = rw test refl in
-    computes ∙ ap (λ (line : ℕ). cnf_from (length text) line (tokens_of text)) (header_line-end text (tokens_of text))
+    rw test refl
 
+-- what is read of a text that is too long
 pub cnf_in-long : (text : List ℕ) → MAX_CNF_BYTES < length text → cnf_in text ≡ Err TooLong
 cnf_in-long text h = let test : nat_lt MAX_CNF_BYTES (length text) ≡ true = lt-ltb MAX_CNF_BYTES (length text) h in rw test refl
 

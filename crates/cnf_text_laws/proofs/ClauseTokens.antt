@@ -5,29 +5,31 @@ use Rattle.std.proofs.lemmas.Bool.{cases_Bool, cases_lt, le-leb, lt-leb}
 use Rattle.clause_defs.specs.Literals.{Literal}
 use Rattle.clause_defs.specs.Clauses.{Lits, clause_of}
 use Rattle.text_defs.specs.Tokens.{Token}
-use Rattle.sat_text_defs.specs.declared.fault.CnfFault.{CnfFault}
-use Rattle.sat_text_defs.specs.declared.fault.CnfFault.TheVariants.{Syntax, VarRange}
+use Rattle.sat_text_defs.specs.declared.errors.CnfError.{CnfError}
+use Rattle.sat_text_defs.specs.declared.errors.CnfError.TheVariants.{Syntax, VarRange}
 use Rattle.sat_text_defs.specs.Words.{words_of, zero_word}
 use Rattle.sat_text_defs.specs.Spellings.{is_zero, literal_in}
-use Rattle.sat_text_defs.specs.TraceText.{ends_in_zero}
-use Rattle.sat_text_defs.specs.TraceReading.{◌>>=◌}
+use Rattle.sat_text_defs.specs.CnfText.{ends_in_zero}
+use Rattle.text_defs.specs.Steps.{◌>>=◌}
 use Rattle.sat_text_defs.specs.CnfReading.{literal_within, clauses_from}
-use Rattle.cnf_text_laws.specs.CnfGrammar.{IsLiteralWord, IsClauseWord, zeros}
-use Rattle.cnf_text_laws.proofs.WordLemmas.{is_zero-word, literal_in-word, word_literal, literal_nonzero, one_literal}
+use Rattle.sat_text_defs.specs.CnfText.{IsClauseWord, zeros}
+use Rattle.sat_text_defs.specs.Words.{SpellsLiteral}
+use Rattle.sat_text_defs.proofs.WordLemmas.{is_zero-word, literal_in-word, word_literal, literal_nonzero}
+use Rattle.cnf_text_laws.proofs.HeaderWords.{one_literal}
 
 -- ---- one token
 
 -- a token that is 0 or a literal over this many variables
 abbrev pub RightWord : ℕ → List ℕ → Type 0
-RightWord v w = (w ≡ zero_word) ⊎ ((l : Literal) × IsLiteralWord w l × (l.variable ≤ v))
+RightWord v w = (w ≡ zero_word) ⊎ ((l : Literal) × SpellsLiteral w l × (l.variable ≤ v))
 
 abbrev pub Outside : ℕ → List ℕ → Type 0
-Outside v w = (l : Literal) × IsLiteralWord w l × (v < l.variable)
+Outside v w = (l : Literal) × SpellsLiteral w l × (v < l.variable)
 
-within_ok : (v : ℕ) (t : Token) (l : Literal) → IsLiteralWord t.bytes l → l.variable ≤ v → literal_within v t ≡ Ok l
+within_ok : (v : ℕ) (t : Token) (l : Literal) → SpellsLiteral t.bytes l → l.variable ≤ v → literal_within v t ≡ Ok l
 within_ok v t l h le = let found = word_literal t.bytes l h in let test : nat_le l.variable v ≡ true = le-leb l.variable v le in rw (found, test) refl
 
-within_out : (v : ℕ) (t : Token) (l : Literal) → IsLiteralWord t.bytes l → v < l.variable → literal_within v t ≡ Err (VarRange t.at)
+within_out : (v : ℕ) (t : Token) (l : Literal) → SpellsLiteral t.bytes l → v < l.variable → literal_within v t ≡ Err (VarRange t.at)
 within_out v t l h lt = let found = word_literal t.bytes l h in let test : nat_le l.variable v ≡ false = lt-leb l.variable v lt in rw (found, test) refl
 
 within_bad : (v : ℕ) (t : Token) → literal_in t.bytes ≡ None → literal_within v t ≡ Err (Syntax t.at)
@@ -37,20 +39,20 @@ step_if : (v end : ℕ) (t : Token) (ts : List Token) (fs : List Lits) (ls : Lit
     → clauses_from v end (t ∷ ts) fs ls ≡ (literal_within v t >>= λ l. clauses_from v end ts fs (ls ++ l ∷ []))
 step_if v end t ts fs ls e = rw e refl
 
-then_lit : (v end : ℕ) (ts : List Token) (fs : List Lits) (ls : Lits) → Result Literal CnfFault → Result (List Lits) CnfFault
+then_lit : (v end : ℕ) (ts : List Token) (fs : List Lits) (ls : Lits) → Result Literal CnfError → Result (List Lits) CnfError
 then_lit v end ts fs ls r = r >>= λ l. clauses_from v end ts fs (ls ++ l ∷ [])
 
 pub step_zero : (v end : ℕ) (t : Token) (ts : List Token) (fs : List Lits) (ls : Lits) → t.bytes ≡ zero_word
     → clauses_from v end (t ∷ ts) fs ls ≡ clauses_from v end ts (fs ++ clause_of ls ∷ []) []
 step_zero v end t ts fs ls e = let zero : is_zero t.bytes ≡ true = ap is_zero e in rw zero refl
 
-pub step_literal : (v end : ℕ) (t : Token) (ts : List Token) (fs : List Lits) (ls : Lits) (l : Literal) → IsLiteralWord t.bytes l → l.variable ≤ v
+pub step_literal : (v end : ℕ) (t : Token) (ts : List Token) (fs : List Lits) (ls : Lits) (l : Literal) → SpellsLiteral t.bytes l → l.variable ≤ v
     → clauses_from v end (t ∷ ts) fs ls ≡ clauses_from v end ts fs (ls ++ l ∷ [])
 unfolding then_lit
 step_literal v end t ts fs ls l h le =
     step_if v end t ts fs ls (literal_nonzero t.bytes l h) ∙ ap (then_lit v end ts fs ls) (within_ok v t l h le)
 
-pub step_out : (v end : ℕ) (t : Token) (ts : List Token) (fs : List Lits) (ls : Lits) (l : Literal) → IsLiteralWord t.bytes l → v < l.variable
+pub step_out : (v end : ℕ) (t : Token) (ts : List Token) (fs : List Lits) (ls : Lits) (l : Literal) → SpellsLiteral t.bytes l → v < l.variable
     → clauses_from v end (t ∷ ts) fs ls ≡ Err (VarRange t.at)
 unfolding then_lit
 step_out v end t ts fs ls l h lt =
@@ -71,7 +73,7 @@ step_bad v end t ts fs ls h =
     ∙ ap (then_lit v end ts fs ls) (within_bad v t (no_literal t.bytes (literal_in t.bytes) refl h))
 
 -- what a word is
-kind_literal : (v : ℕ) (w : List ℕ) (l : Literal) → IsLiteralWord w l → RightWord v w ⊎ (Outside v w ⊎ (IsClauseWord w → ⊥))
+kind_literal : (v : ℕ) (w : List ℕ) (l : Literal) → SpellsLiteral w l → RightWord v w ⊎ (Outside v w ⊎ (IsClauseWord w → ⊥))
 kind_literal v w l h = elim (cases_lt v l.variable) [ inl lt ↦ inr (inl (l, h, lt)) | inr le ↦ inl (inr (l, h, le)) ]
 
 kind_other : (v : ℕ) (w : List ℕ) (o : Option Literal) → is_zero w ≡ false → literal_in w ≡ o → RightWord v w ⊎ (Outside v w ⊎ (IsClauseWord w → ⊥))
@@ -145,7 +147,7 @@ run_zero v end t ts fs ls e r = record {
   ends = r.ends ∙ sym (ends-step (is_empty ls) true t.bytes (words_of ts) (ap is_zero e));
 }
 
-run_literal : (v end : ℕ) (t : Token) (ts : List Token) (fs : List Lits) (ls : Lits) (l : Literal) → IsLiteralWord t.bytes l → l.variable ≤ v
+run_literal : (v end : ℕ) (t : Token) (ts : List Token) (fs : List Lits) (ls : Lits) (l : Literal) → SpellsLiteral t.bytes l → l.variable ≤ v
     → Ran v end ts fs (ls ++ l ∷ []) → Ran v end (t ∷ ts) fs ls
 run_literal v end t ts fs ls l h le r =
     let other : is_zero t.bytes ≡ false = literal_nonzero t.bytes l h in
@@ -168,7 +170,7 @@ run v end (t ∷ ts) fs ls h = elim h.0 [
 
 -- ---- the first token that isn't right
 
-pub record BodyFault (v end : ℕ) (ts : List Token) (e : CnfFault) : Type 0 where
+pub record BodyFault (v end : ℕ) (ts : List Token) (e : CnfError) : Type 0 where
   pub before : List Token
   pub token : Token
   pub after : List Token
@@ -178,7 +180,7 @@ pub record BodyFault (v end : ℕ) (ts : List Token) (e : CnfFault) : Type 0 whe
 
 -- each token is right, and whether the last one is 0; or the first one that isn't, and its fault
 abbrev pub Judged : ℕ → ℕ → List Token → List Lits → Lits → Type 0
-Judged v end ts fs ls = AllRight v ts ⊎ ((e : CnfFault) × BodyFault v end ts e × (clauses_from v end ts fs ls ≡ Err e))
+Judged v end ts fs ls = AllRight v ts ⊎ ((e : CnfError) × BodyFault v end ts e × (clauses_from v end ts fs ls ≡ Err e))
 
 judged_more : (v end : ℕ) (t : Token) (ts : List Token) (fs gs : List Lits) (ls ms : Lits) → RightWord v t.bytes
     → clauses_from v end (t ∷ ts) fs ls ≡ clauses_from v end ts gs ms → Judged v end ts gs ms → Judged v end (t ∷ ts) fs ls
@@ -213,13 +215,13 @@ judged_body v end (t ∷ ts) fs ls = elim (kind v t.bytes) [
 ]
 
 -- what the tokens up to a faulty one give
-pub fault_body : (v end : ℕ) (ts : List Token) (e : CnfFault) (fs : List Lits) (ls : Lits) → BodyFault v end ts e → clauses_from v end ts fs ls ≡ Err e
+pub fault_body : (v end : ℕ) (ts : List Token) (e : CnfError) (fs : List Lits) (ls : Lits) → BodyFault v end ts e → clauses_from v end ts fs ls ≡ Err e
 fault_body v end ts e fs ls b =
     let r = run v end b.before fs ls b.right in
     ap (λ (us : List Token). clauses_from v end us fs ls) b.parts ∙ r.goes_on (b.token ∷ b.after)
     ∙ elim b.fault [
-      | inl bad ↦ step_bad v end b.token b.after r.read r.left bad.0 ∙ ap (λ (x : CnfFault). Err x) (sym bad.1)
-      | inr out ↦ step_out v end b.token b.after r.read r.left out.0.0 out.0.1 out.0.2 ∙ ap (λ (x : CnfFault). Err x) (sym out.1)
+      | inl bad ↦ step_bad v end b.token b.after r.read r.left bad.0 ∙ ap (λ (x : CnfError). Err x) (sym bad.1)
+      | inr out ↦ step_out v end b.token b.after r.read r.left out.0.0 out.0.1 out.0.2 ∙ ap (λ (x : CnfError). Err x) (sym out.1)
     ]
 
 -- ---- the end

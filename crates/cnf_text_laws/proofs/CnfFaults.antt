@@ -3,22 +3,22 @@ use Rattle.std.proofs.Common.{◌≡◌, ◌≢◌, ℕ, ◌⊎◌, inl, inr, �
 use Rattle.std.proofs.lemmas.Bool.{cases_Bool, cases_lt, cases_eq, ne_eqb, ltb-true, ltb-false, false_from_ne_true}
 use Rattle.clause_defs.specs.Clauses.{Lits}
 use Rattle.text_defs.specs.Tokens.{Token}
-use Rattle.sat_text_defs.specs.declared.fault.TheConstants.{MAX_CNF_BYTES}
-use Rattle.sat_text_defs.specs.declared.fault.CnfFault.{CnfFault}
-use Rattle.sat_text_defs.specs.declared.fault.CnfFault.TheVariants.{TooLong, Syntax, VarRange, Count}
+use Rattle.sat_text_defs.specs.declared.limits.TheConstants.{MAX_CNF_BYTES}
+use Rattle.sat_text_defs.specs.declared.errors.CnfError.{CnfError}
+use Rattle.sat_text_defs.specs.declared.errors.CnfError.TheVariants.{TooLong, Syntax, VarRange, Count, NoMemory}
 use Rattle.sat_text_defs.specs.Words.{words_of}
-use Rattle.sat_text_defs.specs.TraceText.{ends_in_zero}
-use Rattle.sat_text_defs.specs.TraceReading.{◌>>=◌}
+use Rattle.sat_text_defs.specs.CnfText.{ends_in_zero}
+use Rattle.text_defs.specs.Steps.{◌>>=◌}
 use Rattle.sat_text_defs.specs.CnfText.{tokens_of}
 use Rattle.clause_defs.specs.Formulas.{Formula}
 use Rattle.sat_text_defs.specs.CnfReading.{clauses_from, counted, cnf_from, cnf_in}
-use Rattle.cnf_text_laws.specs.CnfGrammar.{IsClauseWord, CanStand, IsOutOfRange, EachRight, IsWhole, Counts, FaultOf, header_end, CnfTextFault}
-use Rattle.cnf_text_laws.proofs.BodyLemmas.{Outside, AllRight, BodyFault, judged_body, fault_body, whole_body, open_body}
-use Rattle.cnf_text_laws.proofs.HeaderLemmas.{Headed, stop0, bad1, bad2, bad3, short1, short2, short3, headed_alone, headed_not_alone}
-use Rattle.cnf_text_laws.proofs.EachLemmas.{stands1, stands2, stands3, headed_of_each, alone_of_each, all_of_each, outside_of, each_of_parts}
-use Rattle.cnf_text_laws.proofs.OrderLemmas.{InOrder, BeginsBehind, AllBehind, tokens_in_order, all_behind, begins_behind, behind_before, behind_next}
-use Rattle.cnf_text_laws.proofs.AnswerLemmas.{answer}
-use Rattle.cnf_text_laws.proofs.ValueLemmas.{cnf_from-good, cnf_from-stops, counted-same, cnf_in-short, cnf_in-long}
+use Rattle.sat_text_defs.specs.CnfText.{IsClauseWord, CanStand, IsOutOfRange, EachRight, IsWhole, Counts, FaultOf, header_end, CnfTextFault}
+use Rattle.cnf_text_laws.proofs.ClauseTokens.{Outside, AllRight, BodyFault, judged_body, fault_body, whole_body, open_body}
+use Rattle.cnf_text_laws.proofs.HeaderTokens.{Headed, stop0, bad1, bad2, bad3, short1, short2, short3, headed_alone, headed_not_alone}
+use Rattle.cnf_text_laws.proofs.RightTokens.{stands1, stands2, stands3, headed_of_each, alone_of_each, all_of_each, outside_of, each_of_parts}
+use Rattle.cnf_text_laws.proofs.TokenOrder.{InOrder, BeginsBehind, AllBehind, tokens_in_order, all_behind, begins_behind, behind_before, behind_next}
+use Rattle.cnf_text_laws.proofs.HeaderOrNot.{answer}
+use Rattle.cnf_text_laws.proofs.CnfsRead.{cnf_from-good, cnf_from-stops, counted-same, cnf_in-short, cnf_in-long}
 
 counted-other : (v : ℕ) (fs : List Lits) (k : ℕ) → (length fs ≡ k → ⊥) → counted v k fs ≡ Err (Count k (length fs))
 counted-other v fs k h = let test : (length fs == k) ≡ false = ne_eqb (length fs) k h in rw test refl
@@ -29,10 +29,10 @@ cnf_from-headed : (end line : ℕ) (p c d n : Token) (body : List Token) (v k : 
 cnf_from-headed end line p c d n body v k h b =
     cnf_from-good end line (p ∷ c ∷ d ∷ n ∷ body) v k body (headed_alone end line p c d n body v k h b)
 
-headed_fault : (end line : ℕ) (p c d n : Token) (body : List Token) (v k : ℕ) (e : CnfFault) → Headed line p c d n v k → BeginsBehind line body
+headed_fault : (end line : ℕ) (p c d n : Token) (body : List Token) (v k : ℕ) (e : CnfError) → Headed line p c d n v k → BeginsBehind line body
     → clauses_from v end body [] [] ≡ Err e → cnf_from end line (p ∷ c ∷ d ∷ n ∷ body) ≡ Err e
 headed_fault end line p c d n body v k e h b f =
-    cnf_from-headed end line p c d n body v k h b ∙ ap {B = Result Formula CnfFault} (λ r. r >>= λ fs. counted v k fs) f
+    cnf_from-headed end line p c d n body v k h b ∙ ap {B = Result Formula CnfError} (λ r. r >>= λ fs. counted v k fs) f
 
 -- ---- from what is computed
 
@@ -40,7 +40,7 @@ body_parts : (p c d n : Token) (body before : List Token) (t : Token) (after : L
     → p ∷ c ∷ d ∷ n ∷ body ≡ (p ∷ c ∷ d ∷ n ∷ before) ++ (t ∷ after)
 body_parts p c d n body before t after e = ap (λ (us : List Token). p ∷ c ∷ d ∷ n ∷ us) e
 
-fault_in_body : (end line : ℕ) (p c d n : Token) (body : List Token) (v k : ℕ) (e : CnfFault) → Headed line p c d n v k → AllBehind line body
+fault_in_body : (end line : ℕ) (p c d n : Token) (body : List Token) (v k : ℕ) (e : CnfError) → Headed line p c d n v k → AllBehind line body
     → BodyFault v end body e → FaultOf end line (p ∷ c ∷ d ∷ n ∷ body) e
 fault_in_body end line p c d n body v k e h b f =
     let behind : AllBehind line (f.before ++ (f.token ∷ f.after)) = subst (λ (x : List Token). AllBehind line x) f.parts b in
@@ -48,7 +48,7 @@ fault_in_body end line p c d n body v k e h b f =
     let parts = body_parts p c d n body f.before f.token f.after f.parts in
     elim f.fault [
       | inl bad ↦
-          subst (λ (x : CnfFault). FaultOf end line (p ∷ c ∷ d ∷ n ∷ body) x) (sym bad.1)
+          subst (λ (x : CnfError). FaultOf end line (p ∷ c ∷ d ∷ n ∷ body) x) (sym bad.1)
           (inl (
             f.token,
             record {
@@ -61,7 +61,7 @@ fault_in_body end line p c d n body v k e h b f =
             refl,
           ))
       | inr out ↦
-          subst (λ (x : CnfFault). FaultOf end line (p ∷ c ∷ d ∷ n ∷ body) x) (sym out.1) (
+          subst (λ (x : CnfError). FaultOf end line (p ∷ c ∷ d ∷ n ∷ body) x) (sym out.1) (
             f.token,
             record {
               before = p ∷ c ∷ d ∷ n ∷ f.before;
@@ -75,31 +75,31 @@ fault_in_body end line p c d n body v k e h b f =
           )
     ]
 
-fault_of_count : (end line : ℕ) (p c d n : Token) (body : List Token) (v k : ℕ) (e : CnfFault) → Headed line p c d n v k → AllBehind line body
+fault_of_count : (end line : ℕ) (p c d n : Token) (body : List Token) (v k : ℕ) (e : CnfError) → Headed line p c d n v k → AllBehind line body
     → AllRight v body → ends_in_zero true (words_of body) ≡ true → cnf_from end line (p ∷ c ∷ d ∷ n ∷ body) ≡ Err e
     → FaultOf end line (p ∷ c ∷ d ∷ n ∷ body) e
 fault_of_count end line p c d n body v k e h b a whole f =
     let w = whole_body v end body a whole in
-    let computes = cnf_from-headed end line p c d n body v k h (begins_behind line body b) ∙ ap {B = Result Formula CnfFault} (λ r. r >>= λ fs. counted v k fs) w.1 in
+    let computes = cnf_from-headed end line p c d n body v k h (begins_behind line body b) ∙ ap {B = Result Formula CnfError} (λ r. r >>= λ fs. counted v k fs) w.1 in
     elim (cases_eq (length w.0) k) [
       | inl same ↦ absurd (let good = counted-same v w.0 k same in cc)
       | inr other ↦
           let wrong = counted-other v w.0 k other in
           let fault : Count k (length w.0) ≡ e = cc in
-          subst (λ (x : CnfFault). FaultOf end line (p ∷ c ∷ d ∷ n ∷ body) x) fault
+          subst (λ (x : CnfError). FaultOf end line (p ∷ c ∷ d ∷ n ∷ body) x) fault
           (each_of_parts line p c d n body v k h b a, whole, (h.fourth.1, w.2), λ s. other (sym s))
     ]
 
-fault_of_end : (end line : ℕ) (p c d n : Token) (body : List Token) (v k : ℕ) (e : CnfFault) → Headed line p c d n v k → AllBehind line body
+fault_of_end : (end line : ℕ) (p c d n : Token) (body : List Token) (v k : ℕ) (e : CnfError) → Headed line p c d n v k → AllBehind line body
     → AllRight v body → ends_in_zero true (words_of body) ≡ false → cnf_from end line (p ∷ c ∷ d ∷ n ∷ body) ≡ Err e
     → FaultOf end line (p ∷ c ∷ d ∷ n ∷ body) e
 fault_of_end end line p c d n body v k e h b a open_clause f =
     let computes = headed_fault end line p c d n body v k (Syntax end) h (begins_behind line body b) (open_body v end body a open_clause) in
     let fault : Syntax end ≡ e = cc in
-    subst (λ (x : CnfFault). FaultOf end line (p ∷ c ∷ d ∷ n ∷ body) x) fault
+    subst (λ (x : CnfError). FaultOf end line (p ∷ c ∷ d ∷ n ∷ body) x) fault
     (inr (each_of_parts line p c d n body v k h b a, λ w. (let whole : ends_in_zero true (words_of body) ≡ true = w in cc), refl))
 
-fault_behind : (end line : ℕ) (p c d n : Token) (body : List Token) (v k : ℕ) (e : CnfFault) → Headed line p c d n v k → AllBehind line body
+fault_behind : (end line : ℕ) (p c d n : Token) (body : List Token) (v k : ℕ) (e : CnfError) → Headed line p c d n v k → AllBehind line body
     → cnf_from end line (p ∷ c ∷ d ∷ n ∷ body) ≡ Err e → FaultOf end line (p ∷ c ∷ d ∷ n ∷ body) e
 fault_behind end line p c d n body v k e h b f = elim (judged_body v end body [] []) [
   | inl a ↦ elim (cases_Bool (ends_in_zero true (words_of body))) [
@@ -109,10 +109,10 @@ fault_behind end line p c d n body v k e h b f = elim (judged_body v end body []
   | inr j ↦
       let computes = headed_fault end line p c d n body v k j.0 h (begins_behind line body b) j.2 in
       let fault : j.0 ≡ e = cc in
-      subst (λ (x : CnfFault). FaultOf end line (p ∷ c ∷ d ∷ n ∷ body) x) fault (fault_in_body end line p c d n body v k j.0 h b j.1)
+      subst (λ (x : CnfError). FaultOf end line (p ∷ c ∷ d ∷ n ∷ body) x) fault (fault_in_body end line p c d n body v k j.0 h b j.1)
 ]
 
-fault_computed : (end line : ℕ) (ts : List Token) (e : CnfFault) → InOrder ts → cnf_from end line ts ≡ Err e → FaultOf end line ts e
+fault_computed : (end line : ℕ) (ts : List Token) (e : CnfError) → InOrder ts → cnf_from end line ts ≡ Err e → FaultOf end line ts e
 fault_computed end line ts e o f = elim (answer end line ts) [
   | inl g ↦
       subst (λ (x : List Token). FaultOf end line x e) (sym g.parts)
@@ -123,17 +123,17 @@ fault_computed end line ts e o f = elim (answer end line ts) [
     | inl bad ↦
         let computes = cnf_from-stops end line ts (Syntax bad.0.at) bad.2 in
         let fault : Syntax bad.0.at ≡ e = cc in
-        subst (λ (x : CnfFault). FaultOf end line ts x) fault (inl (bad.0, bad.1, refl))
+        subst (λ (x : CnfError). FaultOf end line ts x) fault (inl (bad.0, bad.1, refl))
     | inr short ↦
         let computes = cnf_from-stops end line ts (Syntax end) short.2 in
         let fault : Syntax end ≡ e = cc in
-        subst (λ (x : CnfFault). FaultOf end line ts x) fault (inr (short.0, short.1, refl))
+        subst (λ (x : CnfError). FaultOf end line ts x) fault (inr (short.0, short.1, refl))
   ]
 ]
 
 -- ---- to what is computed
 
-bad_behind : (end line : ℕ) (p c d n : Token) (us : List Token) (t : Token) (after : List Token) (v k : ℕ) (e : CnfFault) → Headed line p c d n v k
+bad_behind : (end line : ℕ) (p c d n : Token) (us : List Token) (t : Token) (after : List Token) (v k : ℕ) (e : CnfError) → Headed line p c d n v k
     → BeginsBehind line (us ++ (t ∷ after)) → AllRight v us
     → ((IsClauseWord t.bytes → ⊥) × (e ≡ Syntax t.at)) ⊎ (Outside v t.bytes × (e ≡ VarRange t.at))
     → cnf_from end line (p ∷ c ∷ d ∷ n ∷ (us ++ (t ∷ after))) ≡ Err e
@@ -206,27 +206,28 @@ computed_count end line (p ∷ c ∷ d ∷ n ∷ us) said found h w k o =
     let body = whole_body head.0 end us (all_of_each line p c d n us head.0 head.2.third.1 h) w in
     let number : length body.0 ≡ found = body.2 ∙ sym k.1 in
     cnf_from-headed end line p c d n us head.0 said headed (alone_of_each line p c d n us h)
-    ∙ ap {B = Result Formula CnfFault} (λ r. r >>= λ fs. counted head.0 said fs) body.1
+    ∙ ap {B = Result Formula CnfError} (λ r. r >>= λ fs. counted head.0 said fs) body.1
     ∙ counted-other head.0 body.0 said (λ e. o (sym e ∙ number))
-    ∙ ap {B = Result Formula CnfFault} (λ (x : ℕ). Err (Count said x)) number
+    ∙ ap {B = Result Formula CnfError} (λ (x : ℕ). Err (Count said x)) number
 
-computed_fault : (end line : ℕ) (ts : List Token) (e : CnfFault) → InOrder ts → FaultOf end line ts e → cnf_from end line ts ≡ Err e
+computed_fault : (end line : ℕ) (ts : List Token) (e : CnfError) → InOrder ts → FaultOf end line ts e → cnf_from end line ts ≡ Err e
 computed_fault end line ts TooLong o h = absurd h
 computed_fault end line ts (Syntax at) o (inl h) =
     ap (λ (x : List Token). cnf_from end line x) h.1.parts
     ∙ computed_bad end line h.1.before h.0 h.1.after (subst (λ (x : List Token). InOrder x) h.1.parts o) h.1.each_before h.1.cannot
-    ∙ ap {B = Result Formula CnfFault} (λ (x : ℕ). Err (Syntax x)) (sym h.2)
+    ∙ ap {B = Result Formula CnfError} (λ (x : ℕ). Err (Syntax x)) (sym h.2)
 computed_fault end line ts (Syntax at) o (inr h) =
-    computed_short end line ts h.0 h.1 ∙ ap {B = Result Formula CnfFault} (λ (x : ℕ). Err (Syntax x)) (sym h.2)
+    computed_short end line ts h.0 h.1 ∙ ap {B = Result Formula CnfError} (λ (x : ℕ). Err (Syntax x)) (sym h.2)
 computed_fault end line ts (VarRange at) o h =
     ap (λ (x : List Token). cnf_from end line x) h.1.parts
     ∙ computed_out end line h.1.before h.0 h.1.after h.1.each_before h.1.stands h.1.out
-    ∙ ap {B = Result Formula CnfFault} (λ (x : ℕ). Err (VarRange x)) (sym h.2)
+    ∙ ap {B = Result Formula CnfError} (λ (x : ℕ). Err (VarRange x)) (sym h.2)
 computed_fault end line ts (Count said found) o h = computed_count end line ts said found h.0 h.1 h.2 h.3
+computed_fault end line ts NoMemory o h = absurd h
 
 -- ---- texts
 
-pub fault_of_cnf_in : (text : List ℕ) (e : CnfFault) → cnf_in text ≡ Err e → CnfTextFault text e
+pub fault_of_cnf_in : (text : List ℕ) (e : CnfError) → cnf_in text ≡ Err e → CnfTextFault text e
 fault_of_cnf_in text e f = elim (cases_Bool (nat_lt MAX_CNF_BYTES (length text))) [
   | inl test ↦
       let long = ltb-true MAX_CNF_BYTES (length text) test in
@@ -237,7 +238,7 @@ fault_of_cnf_in text e f = elim (cases_Bool (nat_lt MAX_CNF_BYTES (length text))
       inr (short, fault_computed (length text) (header_end text (tokens_of text)) (tokens_of text) e (tokens_in_order text) (sym (cnf_in-short text short) ∙ f))
 ]
 
-pub cnf_in_of_fault : (text : List ℕ) (e : CnfFault) → CnfTextFault text e → cnf_in text ≡ Err e
-cnf_in_of_fault text e (inl h) = cnf_in-long text h.0 ∙ ap {B = Result Formula CnfFault} (λ (x : CnfFault). Err x) (sym h.1)
+pub cnf_in_of_fault : (text : List ℕ) (e : CnfError) → CnfTextFault text e → cnf_in text ≡ Err e
+cnf_in_of_fault text e (inl h) = cnf_in-long text h.0 ∙ ap {B = Result Formula CnfError} (λ (x : CnfError). Err x) (sym h.1)
 cnf_in_of_fault text e (inr h) =
     cnf_in-short text h.0 ∙ computed_fault (length text) (header_end text (tokens_of text)) (tokens_of text) e (tokens_in_order text) h.1

@@ -4,12 +4,12 @@ use Rattle.std.proofs.Common.{◌≡◌, ℕ, ◌≤◌, ◌⊎◌, inl, inr, Li
 use Rattle.std.proofs.lemmas.Bool.{cases_lt}
 use Rattle.clause_defs.specs.declared.verdict.TheConstants.{MAX_VARIABLE, MAX_CLAUSES}
 use Rattle.text_defs.specs.Tokens.{Token}
-use Rattle.sat_text_defs.specs.declared.fault.CnfFault.TheVariants.{Syntax}
+use Rattle.sat_text_defs.specs.declared.errors.CnfError.TheVariants.{Syntax}
 use Rattle.sat_text_defs.specs.CnfReading.{header_in}
-use Rattle.cnf_text_laws.specs.CnfGrammar.{p_word, cnf_word, CanStand, IsRight, EachRight, FirstBad, IsWhole}
-use Rattle.cnf_text_laws.proofs.OrderLemmas.{BeginsBehind}
-use Rattle.cnf_text_laws.proofs.HeaderLemmas.{NumberStands, Headed, word_cases, number_cases, max_variable, max_clauses, stop0, bad1, bad2, bad3, short1, short2, short3, headed_alone, headed_not_alone}
-use Rattle.cnf_text_laws.proofs.EachLemmas.{each_nil, each1, each2, each3, each4}
+use Rattle.sat_text_defs.specs.CnfText.{p_word, cnf_word, CanStand, IsRight, EachRight, FirstBad, IsWhole}
+use Rattle.cnf_text_laws.proofs.TokenOrder.{BeginsBehind}
+use Rattle.cnf_text_laws.proofs.HeaderTokens.{NumberStands, Headed, word_cases, number_cases, max_variable, max_clauses, stop0, bad1, bad2, bad3, short1, short2, short3, headed_alone, headed_not_alone}
+use Rattle.cnf_text_laws.proofs.RightTokens.{each_nil, each1, each2, each3, each4}
 
 -- a header, alone on its line
 pub record Good (end line : ℕ) (ts : List Token) : Type 0 where
@@ -79,7 +79,7 @@ answer3 end line p c d [] v h i j = inr (inr (
   λ w. w,
   short3 end line p c d h i (j.0, (v, j.1)),
 ))
-answer3 end line p c d (n ∷ ts) v h i j = elim (number_cases line MAX_CLAUSES n (omega arith) max_clauses) [
+answer3 end line p c d (n ∷ ts) v h i j = elim (number_cases line MAX_CLAUSES n max_clauses) [
   | inl k ↦ answer4 end line p c d n ts v k.0 (record { first = h; second = i; third = j; fourth = k.1 })
   | inr bad ↦ inr (inl (
     n,
@@ -90,7 +90,7 @@ answer3 end line p c d (n ∷ ts) v h i j = elim (number_cases line MAX_CLAUSES 
 
 answer2 : (end line : ℕ) (p c : Token) (ts : List Token) → CanStand line [] p → CanStand line (p ∷ []) c → Answer end line (p ∷ c ∷ ts)
 answer2 end line p c [] h i = inr (inr (each2 line p c [] h i (each_nil (λ us. IsRight line (p ∷ c ∷ us))), λ w. w, short2 end line p c h i))
-answer2 end line p c (d ∷ ts) h i = elim (number_cases line MAX_VARIABLE d (omega arith) max_variable) [
+answer2 end line p c (d ∷ ts) h i = elim (number_cases line MAX_VARIABLE d max_variable) [
   | inl k ↦ answer3 end line p c d ts k.0 h i k.1
   | inr bad ↦ inr (inl (
     d,

@@ -1,16 +1,18 @@
 -- The header of a text, token by token.
-use Rattle.std.proofs.Common.{◌≡◌, ℕ, ◌^◌, ◌<◌, ◌≤◌, ◌⊎◌, inl, inr, true, false, ◌&&◌, nat_lt, List, [], ◌∷◌, Option, Some, None, Result, Ok, Err, refl, ap, ◌∙◌, arith}
+use Rattle.std.proofs.Common.{◌≡◌, ℕ, ◌^◌, ◌<◌, ◌⊎◌, inl, inr, true, false, ◌&&◌, nat_lt, List, [], ◌∷◌, Option, Some, None, Result, Ok, Err, refl, ap, ◌∙◌, arith}
 use Rattle.std.proofs.lemmas.Bool.{cases_Bool, cases_lt, and_from, and_parts, lt-ltb, le-ltb, ltb-true, false_from_ne_true}
 use Rattle.clause_defs.specs.declared.verdict.TheConstants.{MAX_VARIABLE, MAX_CLAUSES}
 use Rattle.text_defs.specs.Tokens.{Token}
-use Rattle.sat_text_defs.specs.declared.fault.CnfFault.{CnfFault}
-use Rattle.sat_text_defs.specs.declared.fault.CnfFault.TheVariants.{Syntax}
-use Rattle.sat_text_defs.specs.Spellings.{number_in}
-use Rattle.sat_text_defs.specs.TraceReading.{◌>>=◌}
+use Rattle.sat_text_defs.specs.declared.errors.CnfError.{CnfError}
+use Rattle.sat_text_defs.specs.declared.errors.CnfError.TheVariants.{Syntax}
+use Rattle.text_defs.specs.Steps.{◌>>=◌}
 use Rattle.sat_text_defs.specs.CnfReading.{same_word, behind_word, number_before, behind_line, header_in, Header}
-use Rattle.cnf_text_laws.specs.CnfGrammar.{p_word, cnf_word, IsNumberWord, CanStand}
-use Rattle.cnf_text_laws.proofs.OrderLemmas.{BeginsBehind}
-use Rattle.cnf_text_laws.proofs.WordLemmas.{same_word-itself, same_word-equal, number_in-word, word_number}
+use Rattle.sat_text_defs.specs.CnfText.{p_word, cnf_word, CanStand}
+use Rattle.sat_text_defs.specs.Words.{SpellsNumber}
+use Rattle.cnf_text_laws.proofs.TokenOrder.{BeginsBehind}
+use Rattle.cnf_text_laws.proofs.HeaderWords.{same_word-itself, same_word-equal}
+use Rattle.text_defs.specs.Numbers.{number_within}
+use Rattle.text_defs.proofs.NumberLemmas.{number_within-spelled, spelled-number_within}
 
 -- ---- one token
 
@@ -37,41 +39,41 @@ word_cases line w t = elim (cases_Bool (nat_lt t.at line && same_word t.bytes w)
 ]
 
 abbrev pub NumberStands : ℕ → ℕ → Token → ℕ → Type 0
-NumberStands line max t n = (t.at < line) × IsNumberWord max t.bytes n
+NumberStands line max t n = (t.at < line) × SpellsNumber max t.bytes n
 
 number_stands : (end line max : ℕ) (t : Token) (ts : List Token) (n : ℕ) → max < 2 ^ 64 → NumberStands line max t n → number_before end line max (t ∷ ts) ≡ Ok (n, ts)
 number_stands end line max t ts n small h =
     let test : nat_lt t.at line ≡ true = lt-ltb t.at line h.0 in
-    let found : number_in max t.bytes ≡ Some n = word_number max n t.bytes small h.1 in
+    let found : number_within max t.bytes ≡ Some n = spelled-number_within max n t.bytes small h.1.0 h.1.1 in
     rw (test, found) refl
 
-no_number : (max : ℕ) (w : List ℕ) (o : Option ℕ) → 9 ≤ max → max < 2 ^ 64 → number_in max w ≡ o → (((n : ℕ) × IsNumberWord max w n) → ⊥) → number_in max w ≡ None
-no_number max w None nine small e h = e
-no_number max w (Some n) nine small e h = absurd (h (n, number_in-word max n w nine small e))
+no_number : (max : ℕ) (w : List ℕ) (o : Option ℕ) → max < 2 ^ 64 → number_within max w ≡ o → (((n : ℕ) × SpellsNumber max w n) → ⊥) → number_within max w ≡ None
+no_number max w None small e h = e
+no_number max w (Some n) small e h = absurd (h (n, number_within-spelled max n w small e))
 
 number_off : (end line max : ℕ) (t : Token) (ts : List Token) → nat_lt t.at line ≡ false → number_before end line max (t ∷ ts) ≡ Err (Syntax t.at)
 number_off end line max t ts e = rw e refl
 
-number_none : (end line max : ℕ) (t : Token) (ts : List Token) → nat_lt t.at line ≡ true → number_in max t.bytes ≡ None → number_before end line max (t ∷ ts) ≡ Err (Syntax t.at)
+number_none : (end line max : ℕ) (t : Token) (ts : List Token) → nat_lt t.at line ≡ true → number_within max t.bytes ≡ None → number_before end line max (t ∷ ts) ≡ Err (Syntax t.at)
 number_none end line max t ts e h = rw (e, h) refl
 
-number_bad : (end line max : ℕ) (t : Token) (ts : List Token) → 9 ≤ max → max < 2 ^ 64 → ((t.at < line) × ((n : ℕ) × IsNumberWord max t.bytes n) → ⊥)
+number_bad : (end line max : ℕ) (t : Token) (ts : List Token) → max < 2 ^ 64 → ((t.at < line) × ((n : ℕ) × SpellsNumber max t.bytes n) → ⊥)
     → number_before end line max (t ∷ ts) ≡ Err (Syntax t.at)
-number_bad end line max t ts nine small h = elim (cases_Bool (nat_lt t.at line)) [
+number_bad end line max t ts small h = elim (cases_Bool (nat_lt t.at line)) [
   | inl e ↦
       number_none end line max t ts e
-      (no_number max t.bytes (number_in max t.bytes) nine small refl (λ k. h (ltb-true t.at line e, k)))
+      (no_number max t.bytes (number_within max t.bytes) small refl (λ k. h (ltb-true t.at line e, k)))
   | inr e ↦ number_off end line max t ts e
 ]
 
-number_if : (line max : ℕ) (t : Token) (o : Option ℕ) → 9 ≤ max → max < 2 ^ 64 → number_in max t.bytes ≡ o → t.at < line
-    → ((n : ℕ) × NumberStands line max t n) ⊎ ((t.at < line) × ((n : ℕ) × IsNumberWord max t.bytes n) → ⊥)
-number_if line max t (Some n) nine small e lt = inl (n, (lt, number_in-word max n t.bytes nine small e))
-number_if line max t None nine small e lt = inr (λ h. let found = word_number max h.1.0 t.bytes small h.1.1 in cc)
+number_if : (line max : ℕ) (t : Token) (o : Option ℕ) → max < 2 ^ 64 → number_within max t.bytes ≡ o → t.at < line
+    → ((n : ℕ) × NumberStands line max t n) ⊎ ((t.at < line) × ((n : ℕ) × SpellsNumber max t.bytes n) → ⊥)
+number_if line max t (Some n) small e lt = inl (n, (lt, number_within-spelled max n t.bytes small e))
+number_if line max t None small e lt = inr (λ h. let found = spelled-number_within max h.1.0 t.bytes small h.1.1.0 h.1.1.1 in cc)
 
-pub number_cases : (line max : ℕ) (t : Token) → 9 ≤ max → max < 2 ^ 64 → ((n : ℕ) × NumberStands line max t n) ⊎ ((t.at < line) × ((n : ℕ) × IsNumberWord max t.bytes n) → ⊥)
-number_cases line max t nine small = elim (cases_lt t.at line) [
-  | inl lt ↦ number_if line max t (number_in max t.bytes) nine small refl lt
+pub number_cases : (line max : ℕ) (t : Token) → max < 2 ^ 64 → ((n : ℕ) × NumberStands line max t n) ⊎ ((t.at < line) × ((n : ℕ) × SpellsNumber max t.bytes n) → ⊥)
+number_cases line max t small = elim (cases_lt t.at line) [
+  | inl lt ↦ number_if line max t (number_within max t.bytes) small refl lt
   | inr le ↦ inr (λ h. let lt : t.at < line = h.0 in omega arith)
 ]
 
@@ -88,16 +90,16 @@ behind_cases line (t ∷ ts) = elim (cases_lt t.at line) [ inl lt ↦ inr (t, ts
 
 -- ---- what goes on behind each token
 
-abbrev header4 : ℕ → ℕ → ℕ → List Token → Result Header CnfFault
+abbrev header4 : ℕ → ℕ → ℕ → List Token → Result Header CnfError
 header4 line v n ts = behind_line line ts >>= λ rest. Ok (record { variables = v; clauses = n; rest = rest })
 
-abbrev header3 : ℕ → ℕ → ℕ → List Token → Result Header CnfFault
+abbrev header3 : ℕ → ℕ → ℕ → List Token → Result Header CnfError
 header3 end line v ts = number_before end line MAX_CLAUSES ts >>= λ c. header4 line v c.0 c.1
 
-abbrev header2 : ℕ → ℕ → List Token → Result Header CnfFault
+abbrev header2 : ℕ → ℕ → List Token → Result Header CnfError
 header2 end line ts = number_before end line MAX_VARIABLE ts >>= λ v. header3 end line v.0 v.1
 
-abbrev header1 : ℕ → ℕ → List Token → Result Header CnfFault
+abbrev header1 : ℕ → ℕ → List Token → Result Header CnfError
 header1 end line ts = behind_word end line cnf_word ts >>= header2 end line
 
 pub max_variable : MAX_VARIABLE < 2 ^ 64
@@ -107,34 +109,34 @@ pub max_clauses : MAX_CLAUSES < 2 ^ 64
 max_clauses = omega arith
 
 go0 : (end line : ℕ) (p : Token) (ts : List Token) → CanStand line [] p → header_in end line (p ∷ ts) ≡ header1 end line ts
-go0 end line p ts h = ap {B = Result Header CnfFault} (λ r. r >>= header1 end line) (word_stands end line p_word p ts h)
+go0 end line p ts h = ap {B = Result Header CnfError} (λ r. r >>= header1 end line) (word_stands end line p_word p ts h)
 
 go1 : (end line : ℕ) (p c : Token) (ts : List Token) → CanStand line (p ∷ []) c → header1 end line (c ∷ ts) ≡ header2 end line ts
-go1 end line p c ts h = ap {B = Result Header CnfFault} (λ r. r >>= header2 end line) (word_stands end line cnf_word c ts h)
+go1 end line p c ts h = ap {B = Result Header CnfError} (λ r. r >>= header2 end line) (word_stands end line cnf_word c ts h)
 
 go2 : (end line : ℕ) (t : Token) (ts : List Token) (v : ℕ) → NumberStands line MAX_VARIABLE t v → header2 end line (t ∷ ts) ≡ header3 end line v ts
-go2 end line t ts v h = ap {B = Result Header CnfFault} (λ r. r >>= λ x. header3 end line x.0 x.1) (number_stands end line MAX_VARIABLE t ts v max_variable h)
+go2 end line t ts v h = ap {B = Result Header CnfError} (λ r. r >>= λ x. header3 end line x.0 x.1) (number_stands end line MAX_VARIABLE t ts v max_variable h)
 
 go3 : (end line v : ℕ) (t : Token) (ts : List Token) (n : ℕ) → NumberStands line MAX_CLAUSES t n → header3 end line v (t ∷ ts) ≡ header4 line v n ts
-go3 end line v t ts n h = ap {B = Result Header CnfFault} (λ r. r >>= λ x. header4 line v x.0 x.1) (number_stands end line MAX_CLAUSES t ts n max_clauses h)
+go3 end line v t ts n h = ap {B = Result Header CnfError} (λ r. r >>= λ x. header4 line v x.0 x.1) (number_stands end line MAX_CLAUSES t ts n max_clauses h)
 
 go4 : (line v n : ℕ) (ts : List Token) → BeginsBehind line ts → header4 line v n ts ≡ Ok (record { variables = v; clauses = n; rest = ts })
-go4 line v n ts h = ap {B = Result Header CnfFault} (λ r. r >>= λ rest. Ok (record { variables = v; clauses = n; rest = rest })) (behind_ok line ts h)
+go4 line v n ts h = ap {B = Result Header CnfError} (λ r. r >>= λ rest. Ok (record { variables = v; clauses = n; rest = rest })) (behind_ok line ts h)
 
 pub stop0 : (end line : ℕ) (p : Token) (ts : List Token) → (CanStand line [] p → ⊥) → header_in end line (p ∷ ts) ≡ Err (Syntax p.at)
-stop0 end line p ts h = ap {B = Result Header CnfFault} (λ r. r >>= header1 end line) (word_bad end line p_word p ts h)
+stop0 end line p ts h = ap {B = Result Header CnfError} (λ r. r >>= header1 end line) (word_bad end line p_word p ts h)
 
 stop1 : (end line : ℕ) (p c : Token) (ts : List Token) → (CanStand line (p ∷ []) c → ⊥) → header1 end line (c ∷ ts) ≡ Err (Syntax c.at)
-stop1 end line p c ts h = ap {B = Result Header CnfFault} (λ r. r >>= header2 end line) (word_bad end line cnf_word c ts h)
+stop1 end line p c ts h = ap {B = Result Header CnfError} (λ r. r >>= header2 end line) (word_bad end line cnf_word c ts h)
 
 stop2 : (end line : ℕ) (p c t : Token) (ts : List Token) → (CanStand line (p ∷ c ∷ []) t → ⊥) → header2 end line (t ∷ ts) ≡ Err (Syntax t.at)
-stop2 end line p c t ts h = ap {B = Result Header CnfFault} (λ r. r >>= λ x. header3 end line x.0 x.1) (number_bad end line MAX_VARIABLE t ts (omega arith) max_variable h)
+stop2 end line p c t ts h = ap {B = Result Header CnfError} (λ r. r >>= λ x. header3 end line x.0 x.1) (number_bad end line MAX_VARIABLE t ts max_variable h)
 
 stop3 : (end line v : ℕ) (p c d t : Token) (ts : List Token) → (CanStand line (p ∷ c ∷ d ∷ []) t → ⊥) → header3 end line v (t ∷ ts) ≡ Err (Syntax t.at)
-stop3 end line v p c d t ts h = ap {B = Result Header CnfFault} (λ r. r >>= λ x. header4 line v x.0 x.1) (number_bad end line MAX_CLAUSES t ts (omega arith) max_clauses h)
+stop3 end line v p c d t ts h = ap {B = Result Header CnfError} (λ r. r >>= λ x. header4 line v x.0 x.1) (number_bad end line MAX_CLAUSES t ts max_clauses h)
 
 stop4 : (line v n : ℕ) (t : Token) (ts : List Token) → t.at < line → header4 line v n (t ∷ ts) ≡ Err (Syntax t.at)
-stop4 line v n t ts h = ap {B = Result Header CnfFault} (λ r. r >>= λ rest. Ok (record { variables = v; clauses = n; rest = rest })) (behind_bad line t ts h)
+stop4 line v n t ts h = ap {B = Result Header CnfError} (λ r. r >>= λ rest. Ok (record { variables = v; clauses = n; rest = rest })) (behind_bad line t ts h)
 
 -- ---- headers
 

@@ -13,7 +13,8 @@ use Rattle.sat_scan.specs.Scan.{word, word_at, token_at, behind_word_at, tokens_
 word-separator : (b : ℕ) (bs : List ℕ) → separates b ≡ true → word (b ∷ bs) ≡ []
 word-separator b bs e = rw e refl
 
-word-byte : (b : ℕ) (bs : List ℕ) → separates b ≡ false → word (b ∷ bs) ≡ b ∷ word bs
+-- a byte that separates nothing begins the word
+pub word-byte : (b : ℕ) (bs : List ℕ) → separates b ≡ false → word (b ∷ bs) ≡ b ∷ word bs
 word-byte b bs e = rw e refl
 
 word-append : (bs : List ℕ) → word bs ++ drop (length (word bs)) bs ≡ bs

@@ -13,4 +13,4 @@ mod words;
 pub use comments::{behind_comment, next_cnf_word};
 pub use literals::{LitWord, literal_at};
 pub use numbers::{Number, number_at, positive_at};
-pub use words::{is_separator, is_zero_at, next_word};
+pub use words::{is_separator, is_sign_at, is_zero_at, next_word};

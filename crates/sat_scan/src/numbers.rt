@@ -1,5 +1,5 @@
 ghost use Rattle.std.specs.Prelude.{◌≡◌, ◌≤◌, length, option_map, IfSome};
-ghost use Rattle.sat_text_defs.specs.Spellings.{positive_in, number_in};
+ghost use Rattle.text_defs.specs.Numbers.{positive_within, number_within};
 ghost use Rattle.sat_scan.specs.Scan.{word_at, behind_word_at};
 
 use crate::words::{is_separator, is_zero_at};
@@ -16,7 +16,7 @@ pub struct Number {
 pub fn positive_at(text: &[u8], at: usize, max: u32) -> Option<Number>
     requires within { at ≤ length text.now }
     requires digits { 9 ≤ max }
-    ensures value { option_map (λ n. n.value) result ≡ positive_in max (word_at at text.now) }
+    ensures value { option_map (λ n. n.value) result ≡ positive_within max (word_at at text.now) }
     ensures end { IfSome result (λ n. n.end ≡ behind_word_at at text.now) }
     ensures within { IfSome result (λ n. n.end ≤ length text.now) }
     ensures range { IfSome result (λ n. (1 ≤ n.value) × (n.value ≤ max)) }
@@ -47,7 +47,7 @@ pub fn positive_at(text: &[u8], at: usize, max: u32) -> Option<Number>
 pub fn number_at(text: &[u8], at: usize, max: u32) -> Option<Number>
     requires within { at ≤ length text.now }
     requires digits { 9 ≤ max }
-    ensures value { option_map (λ n. n.value) result ≡ number_in max (word_at at text.now) }
+    ensures value { option_map (λ n. n.value) result ≡ number_within max (word_at at text.now) }
     ensures end { IfSome result (λ n. n.end ≡ behind_word_at at text.now) }
     ensures within { IfSome result (λ n. n.end ≤ length text.now) }
     ensures range { IfSome result (λ n. n.value ≤ max) }

@@ -1,6 +1,6 @@
 ghost use Rattle.std.specs.Prelude.{◌≡◌, ◌+◌, ◌<◌, ◌≤◌, true, false, length};
 ghost use Rattle.sat_text_defs.specs.Words.{separates};
-ghost use Rattle.sat_text_defs.specs.Spellings.{is_zero};
+ghost use Rattle.sat_text_defs.specs.Spellings.{is_byte, is_zero, is_sign};
 ghost use Rattle.sat_scan.specs.Scan.{word_at, behind_word_at, tokens_from, IsAtWord};
 
 /// Whether the byte separates words: a space, a tab, a carriage return or a line feed.
@@ -34,5 +34,28 @@ pub fn is_zero_at(text: &[u8], at: usize) -> bool
     ensures within { result ≡ true → at < length text.now }
     ensures one_byte { result ≡ true → behind_word_at at text.now ≡ at + 1 }
 {
-    at < text.len() && text[at] == b'0' && (at + 1 == text.len() || is_separator(text[at + 1]))
+    is_byte_at(text, at, b'0')
+}
+
+/// Whether the word at `at` is the sign `*` alone.
+#[inline]
+pub fn is_sign_at(text: &[u8], at: usize) -> bool
+    requires { at ≤ length text.now }
+    ensures value { result ≡ is_sign (word_at at text.now) }
+    ensures within { result ≡ true → at < length text.now }
+    ensures one_byte { result ≡ true → behind_word_at at text.now ≡ at + 1 }
+{
+    is_byte_at(text, at, b'*')
+}
+
+// Whether the word at `at` is this byte alone, which separates no words.
+#[inline]
+fn is_byte_at(text: &[u8], at: usize, byte: u8) -> bool
+    requires within { at ≤ length text.now }
+    requires inner { separates byte ≡ false }
+    ensures value { result ≡ is_byte byte (word_at at text.now) }
+    ensures within { result ≡ true → at < length text.now }
+    ensures one_byte { result ≡ true → behind_word_at at text.now ≡ at + 1 }
+{
+    at < text.len() && text[at] == byte && (at + 1 == text.len() || is_separator(text[at + 1]))
 }

@@ -1,5 +1,5 @@
 use Rattle.std.proofs.Common.{length, ◌-◌, ◌≡◌, ◌+◌, ◌<◌, ◌≤◌}
-use Rattle.sat_text_defs.specs.Spellings.{positive_in, digits_in}
+use Rattle.text_defs.specs.Numbers.{number_from, at_most, positive_within}
 use Rattle.sat_scan.specs.Scan.{word_at}
 use Rattle.sat_scan.proofs.numbers.positive_at.Given as goal
 
@@ -9,7 +9,7 @@ invariant-loop-end l = record {
   within : l.end ≤ length l.text;
   low : 1 ≤ l.value;
   high : l.value ≤ l.max;
-  value : digits_in l.max l.value (word_at l.end l.text) ≡ positive_in l.max (word_at l.at l.text);
+  value : at_most l.max (number_from l.value (word_at l.end l.text)) ≡ positive_within l.max (word_at l.at l.text);
   end : l.end + length (word_at l.end l.text) ≡ l.at + length (word_at l.at l.text);
 }
 

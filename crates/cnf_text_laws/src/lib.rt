@@ -8,6 +8,6 @@
 mod laws;
 
 pub use laws::{
-    cnf_of_a_text_is_computed, fault_of_a_text_is_computed, formula_is_within_its_variables,
+    cnf_of_a_text_is_computed, fault_of_a_text_is_computed, formula_of_a_text_keeps_the_limits,
     literal_words_are_spelled, text_has_one_cnf_or_fault,
 };

@@ -64,6 +64,13 @@ clause_words ls = map literal_word ls ++ zero_word ∷ []
 abbrev pub EachWithin : ℕ → List Lits → Type 0
 EachWithin variables f = (c : Lits) → Has f c → WithinVariables variables c
 
+-- what the formula of a text keeps
+pub record IsFormula (f : Formula) : Type 0 where
+  pub few_variables : f.variables ≤ MAX_VARIABLE
+  pub few_clauses : length f.clauses ≤ MAX_CLAUSES
+  pub clauses : (c : Lits) → Has f.clauses c → IsClause c
+  pub within : EachWithin f.variables f.clauses
+
 -- the literals ls, in any order and repeated or not, are those of the clause c over this many variables
 pub record IsSpelled (variables : ℕ) (ls c : Lits) : Type 0 where
   pub clause : IsClause c

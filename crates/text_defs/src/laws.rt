@@ -3,7 +3,8 @@ ghost use Rattle.text_defs.specs.Numbers.{Spells, number_in, number_within, posi
 
 /// A text spells one number.
 pub fn spelling_is_unique()
-    ensures { (text : List ℕ) (m n : ℕ) → m < 2 ^ 64 → n < 2 ^ 64 → Spells text m → Spells text n → m ≡ n }
+    ensures { (text : List ℕ) (m n : ℕ) → m < 2 ^ 64 → n < 2 ^ 64
+        → Spells text m → Spells text n → m ≡ n }
 {}
 
 /// The number that is computed of a text is the one that it spells.

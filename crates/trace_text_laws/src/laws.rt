@@ -21,7 +21,8 @@ pub fn fault_of_a_trace_text_is_computed()
 pub fn text_has_one_trace_or_fault()
     ensures some { (text : List ℕ) (v : ℕ)
         → ((t : List Entry) × TraceText text v t) ⊎ ((f : TraceError) × TraceTextFault text v f) }
-    ensures one_trace { (text : List ℕ) (v : ℕ) (t u : List Entry) → TraceText text v t → TraceText text v u → t ≡ u }
+    ensures one_trace { (text : List ℕ) (v : ℕ) (t u : List Entry)
+        → TraceText text v t → TraceText text v u → t ≡ u }
     ensures one_fault { (text : List ℕ) (v : ℕ) (f g : TraceError)
         → TraceTextFault text v f → TraceTextFault text v g → f ≡ g }
     ensures not_both { (text : List ℕ) (v : ℕ) (t : List Entry) (f : TraceError)
@@ -31,6 +32,8 @@ pub fn text_has_one_trace_or_fault()
 /// A text of version 1 is the text of the same trace in every version, and a text of a trace without the
 /// sign is one of version 1.
 pub fn versions_agree_without_the_sign()
-    ensures first { (text : List ℕ) (v : ℕ) (t : List Entry) → TraceText text 1 t → TraceText text v t × AllStated t }
-    ensures stated { (text : List ℕ) (v : ℕ) (t : List Entry) → TraceText text v t → AllStated t → TraceText text 1 t }
+    ensures first { (text : List ℕ) (v : ℕ) (t : List Entry)
+        → TraceText text 1 t → TraceText text v t × AllStated t }
+    ensures stated { (text : List ℕ) (v : ℕ) (t : List Entry)
+        → TraceText text v t → AllStated t → TraceText text 1 t }
 {}

@@ -1,1 +1,3 @@
 pub mod CellListLemmas
+pub mod ConeLemmas
+pub mod WalkLemmas

@@ -10,6 +10,6 @@ abbrev pub cells_with : GeometryValue → List CellValue → List Source → Lis
 cells_with g cells outputs cone = record { geometry = g; cells = cells; outputs = outputs; cone = cone }
 
 -- the cells of a fabric with their cone
-pub record AreCellsWithCone (cells : CellsValue) : Type 0 where
-  pub cells : AreCells cells
-  pub cone : HasCone cells
+pub record AreCellsWithCone (whole : CellsValue) : Type 0 where
+  pub cells : AreCells whole
+  pub cone : HasCone whole

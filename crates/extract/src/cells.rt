@@ -97,4 +97,12 @@ impl Cells {
     {
         self.cone[cell as usize]
     }
+
+    /// For each cell whether it is in the cone.
+    pub fn cone(&self) -> &[bool]
+        ensures value { result.now ≡ self.now.cone }
+        ensures known { AreCellsWithCone self.now }
+    {
+        &self.cone
+    }
 }

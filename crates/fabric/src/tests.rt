@@ -11,13 +11,12 @@ const INVERTER: [u16; 8] = [1, 1, 0, 0, 0, 0x5555, 2, 1];
 /// The same with a cell of six inputs.
 const SIX_INVERTER: [u16; 13] = [1, 1, 0, 0, 0, 0, 0, 0x5555, 0x5555, 0x5555, 0x5555, 2, 1];
 
-/// Two columns of one cell of six inputs between channels of six tracks, which listen to six input
-/// pads. Cell 0 has the pads as its pins, and is 1 where they spell 63, 34, 25 or 0. Cell 1 has the pins
-/// cell 0, pad 1, off, off, pad 5 and cell 0 once more, and is 1 where they spell 51, 36, 16 or 2. The
-/// output pads have the two cells.
-const TWO_COLUMNS: [u16; 40] = [
-    1, 2, 3, 4, 5, 6, 1, 2, 3, 4, 5, 6, 0x8000, 0x0004, 0x0200, 0x0001, 2, 1, 1, 1, 1, 1, 1, 2, 0,
-    0, 6, 1, 0x0008, 0x0010, 0x0001, 0x0004, 1, 2, 0, 0, 0, 0, 1, 2,
+/// Two columns of one cell of six inputs. The tracks of channel 0 have the input pads a, b and c. Cell 0
+/// has the pins a, b, off, off, c and b; channel 1 has cell 0 in place of a. Cell 1 has the pins c, off,
+/// cell 0, off, b and cell 0 once more. The output pads have cell 1 and cell 0.
+const TWO_COLUMNS: [u16; 31] = [
+    1, 2, 3, 1, 2, 0, 0, 3, 2, 0x00f0, 0x0005, 0x000a, 0x000f, 2, 1, 1, 3, 0, 1, 0, 2, 1, 0x0021,
+    0x0032, 0x0001, 0x0012, 1, 2, 1, 2, 1,
 ];
 
 /// The bits of the output pads as a word, and the bit of cell 0.
@@ -52,21 +51,10 @@ fn inverters_of_both_kinds_invert(rt: HostRuntime) -> Result<(), Fail> {
 
 #[test]
 fn tables_and_pins_keep_their_order(rt: HostRuntime) -> Result<(), Fail> {
-    let g = Geometry::new(2, 1, 6, 6, 2)
-        .ok_or("within the limits")?
-        .six();
-    for (x, outputs) in [
-        (63, 3),
-        (34, 3),
-        (25, 1),
-        (0, 1),
-        (32, 2),
-        (2, 2),
-        (17, 0),
-        (1, 0),
-    ] {
-        let (found, _) = bits_of(&rt, rt.alloc(), g, &TWO_COLUMNS, Bits::new(x, 6))?;
-        assert_eq!(rt; found, outputs);
+    let g = Geometry::new(2, 1, 3, 3, 2).ok_or("within the limits")?.six();
+    for (x, outputs) in [3, 3, 2, 1, 1, 3, 0, 0].iter().enumerate() {
+        let (found, _) = bits_of(&rt, rt.alloc(), g, &TWO_COLUMNS, Bits::new(x as u64, 3))?;
+        assert_eq!(rt; found, *outputs);
     }
     Ok(())
 }

@@ -1,0 +1,7 @@
+use Rattle.std.proofs.Common.{[]}
+use Rattle.extract.specs.Kept.{cells_with}
+use Rattle.extract.proofs.ConeLemmas.{IsSwept}
+use Rattle.extract.proofs.cone.cone_of.Given as goal
+
+abbrev pub invariant-loop-cell : goal.invariant-loop-cell
+invariant-loop-cell l = IsSwept (cells_with l.g l.cells l.outputs []) l.cell l.cone.items

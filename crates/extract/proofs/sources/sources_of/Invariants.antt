@@ -1,0 +1,9 @@
+use Rattle.std.proofs.Common.{◌≡◌}
+use Rattle.extract.specs.Walks.{IsChannel, cells_before}
+use Rattle.extract.proofs.sources.sources_of.Given as goal
+
+abbrev pub invariant-loop-column : goal.invariant-loop-column
+invariant-loop-column l = record {
+  channel : IsChannel l.config l.column l.tracks.items;
+  cells : l.cells ≡ cells_before l.config l.column 0;
+}

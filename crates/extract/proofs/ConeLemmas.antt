@@ -7,7 +7,7 @@ use Rattle.fabric_defs.specs.Geometries.{cell_count}
 use Rattle.cell_defs.specs.declared.source.Source.{Source}
 use Rattle.cell_defs.specs.declared.source.Source.TheVariants.{Zero, Cell}
 use Rattle.cell_defs.specs.Cells.{CellsValue, cell_at, IsSourceBelow, AreCells}
-use Rattle.cell_defs.specs.Cones.{IsClosed, IsCone, HasCone, with_cone, in_cone}
+use Rattle.cell_defs.specs.Cones.{IsClosed, HasCone, with_cone, in_cone}
 use Rattle.cell_laws.proofs.ConeLemmas.{IsCone-with_cone}
 use Rattle.cell_laws.proofs.SourceBits.{All-Has}
 use Rattle.cell_laws.proofs.CellEquations.{listens_below}
@@ -138,15 +138,4 @@ swept l flags cells h = record {
         };
         least = h.least;
       });
-}
-
--- before any cell was passed, those to which the output pads listen are flagged
-pub sweep_first : (l : CellsValue) (before flags : List Bool) (end : ℕ) → AreCells l → cell_count l.geometry ≤ end → length before ≡ cell_count l.geometry
-    → ((n : ℕ) → IsMarked before n → ⊥) → length flags ≡ length before
-    → ((n : ℕ) → IsMarked flags n ↔ (IsMarked before n ⊎ Has l.outputs (Cell n))) → IsSwept l end flags
-sweep_first l before flags end cells all size none count marks = record {
-  cells = count ∙ size;
-  outputs = λ n has. (marks n).1 (inr has);
-  pins = λ m n le lt member has. absurd (omega arith);
-  least = λ other closed n member. ⊎_elim (λ old. absurd (none n old)) (λ has. closed.outputs n has) ((marks n).0 member);
 }

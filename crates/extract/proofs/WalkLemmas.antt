@@ -1,12 +1,12 @@
 -- Steps of the pass over the columns.
-use Rattle.std.proofs.Common.{◌≡◌, ℕ, zero, suc, ◌+◌, ◌*◌, ◌<◌, ◌≤◌, Bool, List, [], ◌∷◌, ◌++◌, length, map, take, set, get_or, All, refl, ap, subst, sym, ◌∙◌, ⊎_elim, arith, add-one, length-append}
+use Rattle.std.proofs.Common.{◌≡◌, ℕ, zero, suc, ◌+◌, ◌*◌, ◌^◌, ◌<◌, ◌≤◌, Bool, List, [], ◌∷◌, ◌++◌, length, map, take, set, get_or, All, refl, ap, subst, sym, ◌∙◌, ⊎_elim, arith, add-one, length-append}
 use Rattle.std.proofs.lemmas.List.{append_assoc, append-nil, length-set, get_or-set_same, get_or-set_other, get_or_read, take_all}
 use Rattle.std.proofs.lemmas.List.Elements.{All-append}
 use Rattle.std.proofs.lemmas.List.Sums.{sum_by-le}
 use Rattle.std.proofs.lemmas.Bool.{cases_lt, cases_eq}
 use Rattle.fabric_defs.specs.declared.limits.TheConstants.{MAX_PINS, MAX_SIDE}
 use Rattle.fabric_defs.specs.Numbered.{list_of, joined}
-use Rattle.fabric_defs.specs.Geometries.{GeometryValue, IsGeometry, pin_count, cell_count}
+use Rattle.fabric_defs.specs.Geometries.{GeometryValue, IsGeometry, pin_count}
 use Rattle.fabric_defs.specs.Configurations.{ConfigValue, IsConfig, first_word, first_words, pin_word, pin_words, table, track_word, output_word, output_words}
 use Rattle.fabric_laws.proofs.NumberedLemmas.{length-list_of, get_or-list_of, list_of-more, list_of-agree, map-list_of, joined-more, All-list_of, All-joined, get_or-rows, length-rows}
 use Rattle.fabric_laws.proofs.LayoutLemmas.{pins_of-le}
@@ -14,7 +14,7 @@ use Rattle.fabric_laws.proofs.LimitLemmas.{pin_word-le, output_word-le}
 use Rattle.cell_defs.specs.declared.source.Source.{Source}
 use Rattle.cell_defs.specs.declared.source.Source.TheVariants.{Zero}
 use Rattle.cell_defs.specs.Cells.{CellValue, no_cell}
-use Rattle.cell_defs.specs.Sources.{pad_source, tapped_source, switched_source, track_source, pin_source, cell_of, output_source, output_sources, AreSourcesOf}
+use Rattle.cell_defs.specs.Sources.{pad_source, tapped_source, switched_source, track_source, pin_source, cell_of, output_sources, AreSourcesOf}
 use Rattle.extract.specs.CellLists.{pins_in}
 use Rattle.extract.specs.Kept.{cells_with}
 use Rattle.extract.specs.Walks.{IsChannel, tapped_sources, cells_before}

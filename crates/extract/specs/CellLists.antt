@@ -1,5 +1,5 @@
 -- Cells in flat lists: the pins of each, and beside them the tables.
-use Rattle.std.specs.Prelude.{◌≡◌, ℕ, List, [], ◌∷◌, length, slice_index_or, sum_by}
+use Rattle.std.specs.Prelude.{ℕ, List, [], ◌∷◌, length, slice_index_or, sum_by}
 use Rattle.cell_defs.specs.declared.source.Source.{Source}
 use Rattle.cell_defs.specs.Cells.{CellValue, no_cell}
 

@@ -4,4 +4,4 @@ use Rattle.extract.proofs.ConeLemmas.{IsSwept}
 use Rattle.extract.proofs.cone.cone_of.Given as goal
 
 abbrev pub invariant-loop-cell : goal.invariant-loop-cell
-invariant-loop-cell l = IsSwept (cells_with l.g l.cells l.outputs []) l.cell l.cone.items
+invariant-loop-cell l = IsSwept (cells_with l.fn.g l.cells l.outputs []) l.cell l.cone.items

@@ -15,7 +15,7 @@ index-requires c =
 pub returns-clause-pins : goal.returns-clause-pins
 returns-clause-pins c =
     let i = c.self.inside in
-    pins_read c.args.self.now i.pins.lists i.tables.items c.args.k _ c.self.view_is c.self.invariant c.requires c.get.ensures
+    pins_read c.args.self.now i.pins.lists i.tables.items c.args.k _ c.self.view_is c.self.invariant c.requires c.get.ensures.list
 
 pub returns-clause-table : goal.returns-clause-table
 returns-clause-table c =

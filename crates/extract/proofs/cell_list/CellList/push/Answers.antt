@@ -1,5 +1,5 @@
-use Rattle.std.proofs.Common.{length, ap, sym, ◌∙◌, ◌++◌, [], ◌∷◌, arith}
-use Rattle.extract.specs.CellLists.{pins_in, cells_of}
+use Rattle.std.proofs.Common.{length, ap, ◌∙◌, ◌++◌, [], ◌∷◌, arith}
+use Rattle.extract.specs.CellLists.{pins_in}
 use Rattle.extract.proofs.CellListLemmas.{length-cells_of, pins_in-cells_of, cells_of-push}
 use Rattle.extract.proofs.cell_list.CellList.push.Goals as goal
 

@@ -1,7 +1,3 @@
 pub mod WordBytes
 pub mod PrintedWords
-pub mod PrintedTrace
-pub mod PrintedLines
-pub mod PrintedHeader
-pub mod PrintedCnf
-pub mod ReadAgain
+pub mod PrintedTraces

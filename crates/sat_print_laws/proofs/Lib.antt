@@ -1,3 +1,4 @@
 pub mod WordBytes
 pub mod PrintedWords
 pub mod PrintedTraces
+pub mod TextLengths

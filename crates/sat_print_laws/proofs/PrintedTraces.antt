@@ -1,5 +1,5 @@
 -- The printed text of a trace is the text of that trace.
-use Rattle.std.proofs.Common.{◌≡◌, ℕ, ◌+◌, ◌<◌, ◌≤◌, zero, suc, inl, inr, List, [], ◌∷◌, ◌++◌, length, map, slice_get, Option, Some, None, decimal, refl, sym, ap, subst, ◌∙◌, arith}
+use Rattle.std.proofs.Common.{◌≡◌, ℕ, ◌<◌, ◌≤◌, suc, inl, inr, List, [], ◌∷◌, ◌++◌, length, map, slice_get, Option, Some, None, decimal, refl, sym, ap, subst, arith}
 use Rattle.std.specs.List.{flat_map}
 use Rattle.clause_defs.specs.declared.verdict.TheConstants.{MAX_INDEX}
 use Rattle.clause_defs.specs.Literals.{Literal, IsLiteral}
@@ -8,8 +8,8 @@ use Rattle.clause_defs.specs.Compaction.{AllStated}
 use Rattle.clause_defs.specs.Traces.{Entry, IsTrace, literals_in, stated_of, antecedents_of, index_of, index_at}
 use Rattle.clause_laws.proofs.ClauseLemmas.{same_refl}
 use Rattle.sat_text_defs.specs.declared.limits.TheConstants.{MAX_TRACE_BYTES}
-use Rattle.sat_text_defs.specs.Words.{words_of, zero_word, sign_word, literal_word}
-use Rattle.sat_text_defs.specs.TraceText.{Spelled, stated_words, clause_words, SameStated, AreSpelled, SpellsTrace, TraceText, tokens_of}
+use Rattle.sat_text_defs.specs.Words.{zero_word, sign_word, literal_word}
+use Rattle.sat_text_defs.specs.TraceText.{Spelled, stated_words, clause_words, SameStated, AreSpelled, TraceText}
 use Rattle.sat_text_defs.specs.Printed.{number_text, literal_text, stated_text, trace_line, trace_text}
 use Rattle.sat_print_laws.proofs.WordBytes.{IsWord-decimal, IsWord-literal, IsWord-zero, IsWord-sign}
 use Rattle.sat_print_laws.proofs.PrintedWords.{Prints, Prints-nothing, Prints-append, Prints-blank, Prints-line_feed, Prints-map, Prints-flat_map, Prints-all}
@@ -99,10 +99,13 @@ AreSpelled-printed t (e ∷ es) = (record { index = refl; stated = same_stated e
 
 -- the printed text of a trace is the text of that trace, in a version that may have its signs
 pub printed-text : (v : ℕ) (t : List Entry) → IsTrace t → (v ≡ 1 → AllStated t) → length (trace_text t) ≤ MAX_TRACE_BYTES → TraceText (trace_text t) v t
-printed-text v t h signs short = (short, record {
-  trace = h;
-  signs = signs;
-  spelled = printed_all t t;
-  same_clauses = AreSpelled-printed t t;
-  same_words = Prints-all 0 (trace_text t) (flat_map clause_words (printed_all t t)) (trace_prints t h);
-})
+printed-text v t h signs short = (
+  short,
+  record {
+    trace = h;
+    signs = signs;
+    spelled = printed_all t t;
+    same_clauses = AreSpelled-printed t t;
+    same_words = Prints-all 0 (trace_text t) (flat_map clause_words (printed_all t t)) (trace_prints t h);
+  },
+)

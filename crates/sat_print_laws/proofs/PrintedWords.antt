@@ -3,7 +3,7 @@
 use Rattle.std.proofs.Common.{◌≡◌, ℕ, ◌+◌, false, inl, inr, List, [], ◌∷◌, ◌++◌, length, map, refl, sym, ap, ◌∙◌, append_assoc, length-append, arith}
 use Rattle.std.specs.List.{flat_map}
 use Rattle.clause_defs.specs.Clauses.{Has}
-use Rattle.text_defs.specs.Tokens.{Token, tokens, begins_with_token}
+use Rattle.text_defs.specs.Tokens.{tokens, begins_with_token}
 use Rattle.text_defs.proofs.TokenLemmas.{tokens-run}
 use Rattle.sat_text_defs.specs.Words.{separates, words_of}
 use Rattle.sat_print_laws.proofs.WordBytes.{IsWord}

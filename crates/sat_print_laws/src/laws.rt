@@ -11,3 +11,18 @@ pub fn printed_trace_is_read_again()
     ensures { (v : ℕ) (t : List Entry) → IsTrace t → (v ≡ 1 → AllStated t)
         → length (trace_text t) ≤ MAX_TRACE_BYTES → TraceText (trace_text t) v t }
 {}
+
+/// What is printed of a trace that was read isn't longer than its text and a line feed, nor is what is
+/// printed of the trace with the sign in place of the literals of its derived clauses.
+pub fn printed_trace_is_short()
+    ensures as_it_is { (text : List ℕ) (v : ℕ) (t : List Entry)
+        → TraceText text v t → length (trace_text t) ≤ length text + 1 }
+    ensures with_signs { (text : List ℕ) (v : ℕ) (t : List Entry)
+        → TraceText text v t → length (trace_text (compacted t)) ≤ length text + 1 }
+{}
+
+/// A text has at least two bytes for each literal that a derived clause of its trace states.
+pub fn text_states_few_literals()
+    ensures { (text : List ℕ) (v : ℕ) (t : List Entry)
+        → TraceText text v t → 2 * derived_literals t ≤ length text }
+{}

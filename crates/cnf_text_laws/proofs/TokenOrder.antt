@@ -43,6 +43,11 @@ placed_tokens : (s : ℕ → Bool) (at : ℕ) (bs : List ℕ) → Placed at (tok
 placed_tokens s at [] = record { from = λ t k. absurd k; order = tt }
 placed_tokens s at (b ∷ bs) = placed_if at b (tokens s (at + 1) bs) (s b) (begins_with_token s bs) (placed_tokens s (at + 1) bs)
 
+-- no token begins before the text does
+pub tokens_from : (s : ℕ → Bool) (at : ℕ) (bs : List ℕ) (t : Token) → Has (tokens s at bs) t → at ≤ t.at
+tokens_from s at bs = (placed_tokens s at bs).from
+
+-- the tokens of a text stand in its order
 pub tokens_in_order : (text : List ℕ) → InOrder (tokens_of text)
 tokens_in_order text = (placed_tokens separates 0 (uncommented first text)).order
 

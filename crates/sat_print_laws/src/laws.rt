@@ -1,9 +1,20 @@
 ghost use Rattle.std.specs.Prelude.{◌≡◌, ℕ, ◌+◌, ◌*◌, ◌≤◌, List, length};
 ghost use Rattle.clause_defs.specs.Compaction.{AllStated, compacted, derived_literals};
+ghost use Rattle.clause_defs.specs.Formulas.{Formula};
 ghost use Rattle.clause_defs.specs.Traces.{Entry, IsTrace};
-ghost use Rattle.sat_text_defs.specs.declared.limits.TheConstants.{MAX_TRACE_BYTES};
-ghost use Rattle.sat_text_defs.specs.Printed.{trace_text};
+ghost use Rattle.sat_text_defs.specs.declared.limits.TheConstants.{MAX_CNF_BYTES, MAX_TRACE_BYTES};
+ghost use Rattle.sat_text_defs.specs.CnfText.{CnfText, IsFormula};
+ghost use Rattle.sat_text_defs.specs.Printed.{cnf_text, trace_text};
 ghost use Rattle.sat_text_defs.specs.TraceText.{TraceText};
+
+/// The printed text of a formula within the limits, if it is short enough to be read, is the text of that
+/// formula; and each formula that was read is within the limits.
+pub fn printed_cnf_is_read_again()
+    ensures printed { (f : Formula) → IsFormula f
+        → length (cnf_text f) ≤ MAX_CNF_BYTES → CnfText (cnf_text f) f }
+    ensures again { (text : List ℕ) (f : Formula) → CnfText text f
+        → length (cnf_text f) ≤ MAX_CNF_BYTES → CnfText (cnf_text f) f }
+{}
 
 /// The printed text of a trace, if it is short enough to be read, is the text of that trace: in version 1
 /// where the literals of each clause are stated, and in every other version.

@@ -8,4 +8,7 @@
 
 mod laws;
 
-pub use laws::{printed_trace_is_read_again, printed_trace_is_short, text_states_few_literals};
+pub use laws::{
+    printed_cnf_is_read_again, printed_trace_is_read_again, printed_trace_is_short,
+    text_states_few_literals,
+};

@@ -1,5 +1,5 @@
 -- The words of each part of a configuration, as runs that the code cuts out of all words.
-use Rattle.std.proofs.Common.{◌≡◌, ℕ, ◌+◌, ◌-◌, ◌<◌, ◌≤◌, List, length, take, All, ap, subst, sym, ◌∙◌, arith}
+use Rattle.std.proofs.Common.{◌≡◌, ℕ, ◌+◌, ◌<◌, ◌≤◌, List, length, take, All, ap, subst, sym, ◌∙◌, arith}
 use Rattle.std.specs.List.{slice_range}
 use Rattle.fabric_defs.specs.Geometries.{GeometryValue, pin_count}
 use Rattle.fabric_defs.specs.Layout.{table_words, cell_place, table_place, channel_place, output_place}

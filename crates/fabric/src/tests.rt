@@ -51,7 +51,9 @@ fn inverters_of_both_kinds_invert(rt: HostRuntime) -> Result<(), Fail> {
 
 #[test]
 fn tables_and_pins_keep_their_order(rt: HostRuntime) -> Result<(), Fail> {
-    let g = Geometry::new(2, 1, 3, 3, 2).ok_or("within the limits")?.six();
+    let g = Geometry::new(2, 1, 3, 3, 2)
+        .ok_or("within the limits")?
+        .six();
     for (x, outputs) in [3, 3, 2, 1, 1, 3, 0, 0].iter().enumerate() {
         let (found, _) = bits_of(&rt, rt.alloc(), g, &TWO_COLUMNS, Bits::new(x as u64, 3))?;
         assert_eq!(rt; found, *outputs);

@@ -1,12 +1,13 @@
 -- Words and the bytes that spell them.
-use Rattle.std.proofs.Common.{◌≡◌, ℕ, zero, suc, ◌+◌, ◌*◌, ◌/◌, ◌%◌, ◌<◌, List, [], ◌∷◌, length, get_or, Result, Ok, Err, refl, ap, sym, ◌∙◌, subst, arith}
+use Rattle.std.proofs.Common.{◌≡◌, ℕ, zero, suc, ◌+◌, ◌*◌, ◌/◌, ◌%◌, ◌<◌, List, [], ◌∷◌, length, get_or, Result, Ok, Err, refl, ap, sym, ◌∙◌, subst, inr, arith}
 use Rattle.std.specs.Result.{IfOk}
 use Rattle.std.proofs.lemmas.List.{ext_get_or}
 use Rattle.fabric_defs.specs.Geometries.{GeometryValue}
-use Rattle.fabric_defs.specs.Configurations.{ConfigValue, IsConfig, ConfigOf, GivesConfigOf}
+use Rattle.text_defs.specs.Memory.{OrMemory}
+use Rattle.fabric_defs.specs.Configurations.{ConfigValue, IsConfig, ConfigOf}
 use Rattle.fabric_defs.specs.Spelling.{word_at, words_in, bytes_of}
 use Rattle.fabric_defs.specs.declared.faults.ConfigError.{ConfigError}
-use Rattle.fabric_defs.specs.declared.faults.ConfigError.TheVariants.{Length, Selector, NoMemory}
+use Rattle.fabric_defs.specs.declared.faults.ConfigError.TheVariants.{NoMemory}
 use Rattle.fabric_laws.proofs.NumberedLemmas.{length-list_of, get_or-list_of, list_of_elements, length-joined, get_or-joined, place_splits}
 use Rattle.fabric_laws.proofs.LimitLemmas.{length-words}
 
@@ -74,13 +75,11 @@ bytes_of-words_in bytes count even small =
     ∙ pair_at bytes i j small at.3
     ∙ ap (λ m. get_or bytes m 0) turned)
 
--- what takes no memory gives it, too
-pub GivesConfigOf-exact : (g : GeometryValue) (bytes : ℕ) (words : List ℕ) (r : Result ConfigValue ConfigError)
-    → ConfigOf g bytes words r → GivesConfigOf g bytes words r
-GivesConfigOf-exact g bytes words (Ok k) h = h
-GivesConfigOf-exact g bytes words (Err (Length want found)) h = h
-GivesConfigOf-exact g bytes words (Err (Selector at)) h = h
-GivesConfigOf-exact g bytes words (Err NoMemory) h = absurd h
+-- what takes no memory is right where memory may be wanting, too
+pub OrMemory-exact : (g : GeometryValue) (bytes : ℕ) (words : List ℕ) (r : Result ConfigValue ConfigError)
+    → ConfigOf g bytes words r → OrMemory NoMemory (ConfigOf g bytes words) r
+OrMemory-exact g bytes words (Ok config) h = h
+OrMemory-exact g bytes words (Err error) h = inr h
 
 -- the words of what is given are the words
 pub words_of_given : (g : GeometryValue) (bytes : ℕ) (words spelled : List ℕ) (r : Result ConfigValue ConfigError)

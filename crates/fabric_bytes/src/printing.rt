@@ -1,3 +1,5 @@
+//! From a configuration to its bytes.
+
 ghost use Rattle.std.specs.Prelude.{◌≡◌, length, IfOk, Ok};
 ghost use Rattle.fabric_defs.specs.Configurations.{ConfigOf};
 ghost use Rattle.fabric_defs.specs.Spelling.{words_in, bytes_of};
@@ -8,12 +10,11 @@ use pch_base::NoMemory;
 use std::alloc::Global;
 
 /// The bytes of the words of a configuration.
-pub fn print_config(alloc: Global, k: &Config) -> Result<Vec<u8>, NoMemory>
-    ensures bytes { IfOk result (λ b. b.items ≡ bytes_of k.now.words) }
-    ensures read_again { IfOk result (λ b. ConfigOf k.now.geometry (length b.items) (words_in b.items) (Ok k.now)) }
+pub fn print_config(alloc: Global, config: &Config) -> Result<Vec<u8>, NoMemory>
+    ensures bytes { IfOk result (λ b. b.items ≡ bytes_of config.now.words) }
+    ensures read_again { IfOk result (λ b. ConfigOf config.now.geometry (length b.items) (words_in b.items) (Ok config.now)) }
 {
-    k.known();
-    let words = k.words();
+    let words = config.words();
     let mut bytes = Vec::with_capacity(alloc, 2 * words.len())?;
     for word in words {
         let mut pair = [0; 2];

@@ -1,6 +1,10 @@
+//! From bytes to a configuration.
+
 ghost use Rattle.std.specs.Prelude.{◌≡◌, ◌+◌, ◌*◌, ◌<◌, length, IfOk};
-ghost use Rattle.fabric_defs.specs.Configurations.{GivesConfigOf};
+ghost use Rattle.text_defs.specs.Memory.{OrMemory};
+ghost use Rattle.fabric_defs.specs.Configurations.{ConfigOf};
 ghost use Rattle.fabric_defs.specs.Spelling.{word_at, words_in, bytes_of};
+ghost use Rattle.fabric_defs.specs.declared.faults.ConfigError.TheVariants.{NoMemory};
 
 use byteorder::{BigEndian, ByteOrder};
 use fabric::{Config, ConfigError, Geometry};
@@ -31,8 +35,8 @@ fn read_words(alloc: Global, b: &[u8]) -> Result<Vec<u16>, AllocError>
 /// bytes as the geometry wants; else `Selector` with the place of the first word out of its range; and
 /// `NoMemory` where memory was wanting.
 pub fn read_config(alloc: Global, g: Geometry, b: &[u8]) -> Result<Config, ConfigError>
-    ensures exact { GivesConfigOf g (length b.now) (words_in b.now) result }
-    ensures printed_again { IfOk result (λ k. bytes_of k.words ≡ b.now) }
+    ensures exact { OrMemory NoMemory (ConfigOf g (length b.now) (words_in b.now)) result }
+    ensures printed_again { IfOk result (λ config. bytes_of config.words ≡ b.now) }
 {
     let want = 2 * u64::from(g.words());
     let found = b.len() as u64;

@@ -1,6 +1,8 @@
 use crate::{print_config, read_config};
-use fabric::{ConfigError, Geometry, Wires, cell, eval};
+use fabric::{Geometry, Wires, eval};
 use pch_base::Bits;
+use std::alloc::Global;
+use std::process::Abort;
 use std::test::Fail;
 
 /// One cell that negates the one input pad.
@@ -9,59 +11,37 @@ const INVERTER: [u8; 16] = [
 ];
 
 #[test]
-fn an_inverter_is_read(rt: HostRuntime) -> Result<(), Fail> {
+fn an_inverter_is_read_and_printed(rt: HostRuntime) -> Result<(), Fail> {
     let alloc = rt.alloc();
-    let g = Geometry::new(1, 1, 1, 1, 1).expect(&rt, "within the limits");
-    let k = read_config(alloc, g, &INVERTER)?;
-    assert_eq!(rt; k.words(), [1, 1, 0, 0, 0, 0x5555, 2, 1].as_slice());
-    assert_eq!(rt; print_config(alloc, &k)?.as_slice(), INVERTER.as_slice());
-    for (x, y) in [(0, 1), (1, 0)] {
-        let mut w = Wires::new(alloc, g)?;
-        assert_eq!(rt; eval(&k, Bits::new(x, 1), &mut w).word(), y);
-        assert_eq!(rt; u64::from(cell(&w, 0)), y);
-    }
+    let g = Geometry::new(1, 1, 1, 1, 1).ok_or("within the limits")?;
+    let config = read_config(alloc, g, &INVERTER)?;
+    assert_eq!(rt; config.table(0, 0), 0x5555);
+    assert_eq!(rt;
+        print_config(alloc, &config)?.as_slice(),
+        INVERTER.as_slice()
+    );
     Ok(())
 }
 
-#[test]
-fn faults_are_the_first(rt: HostRuntime) -> Result<(), Fail> {
-    let alloc = rt.alloc();
-    let g = Geometry::new(1, 1, 1, 1, 1).expect(&rt, "within the limits");
-    let mut selector = INVERTER;
-    selector[13] = 3;
-    let mut earlier = selector;
-    earlier[2] = 1;
-    let cases: [(&[u8], ConfigError); 4] = [
-        (
-            &INVERTER[..15],
-            ConfigError::Length {
-                want: 16,
-                found: 15,
-            },
-        ),
-        (&[], ConfigError::Length { want: 16, found: 0 }),
-        (&selector, ConfigError::Selector { at: 12 }),
-        (&earlier, ConfigError::Selector { at: 2 }),
-    ];
-    for (bytes, want) in cases {
-        match read_config(alloc, g, bytes) {
-            Ok(_) => assert!(rt; false),
-            Err(error) => assert_eq!(rt; error, want),
-        }
-    }
-    Ok(())
+/// The outputs of the configuration of so many zero bytes, where all input pads are 1.
+fn outputs_of_zeros(
+    rt: &impl Abort,
+    alloc: Global,
+    g: Geometry,
+    bytes: usize,
+) -> Result<Bits, Fail> {
+    let config = read_config(alloc, g, &vec![in alloc; 0; bytes]?)?;
+    let mut w = Wires::new(alloc, config.geometry())?;
+    let x = Bits::new(u64::MAX, 64);
+    assert!(rt; x.len() <= config.geometry().i());
+    Ok(eval(&config, x, &mut w))
 }
 
 #[test]
-fn the_greatest_fabric_may_be_off(rt: HostRuntime) -> Result<(), Fail> {
-    let alloc = rt.alloc();
-    let g = Geometry::new(64, 64, 256, 64, 64).expect(&rt, "within the limits");
-    let k = read_config(alloc, g, &vec![in alloc; 0; 74_368]?)?;
-    for x in [0, u64::MAX] {
-        let mut w = Wires::new(alloc, g)?;
-        let x = Bits::new(x, 64);
-        assert!(rt; x.len() <= k.geometry().i());
-        let outputs = eval(&k, x, &mut w);
+fn the_greatest_fabrics_may_be_off(rt: HostRuntime) -> Result<(), Fail> {
+    let g = Geometry::new(64, 64, 256, 64, 64).ok_or("within the limits")?;
+    for (g, bytes) in [(g, 74_368), (g.six(), 115_328)] {
+        let outputs = outputs_of_zeros(&rt, rt.alloc(), g, bytes)?;
         assert_eq!(rt; outputs.len(), 64);
         assert_eq!(rt; outputs.word(), 0);
     }

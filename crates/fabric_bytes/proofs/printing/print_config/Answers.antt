@@ -8,8 +8,8 @@ pub returns-clause-read_again : goal.returns-clause-read_again
 returns-clause-read_again c =
     let words = c.words-words.result.now in
     let all : c.loop-word.word-index ≡ length words = omega arith in
-    let printed : c.loop-word.bytes.items ≡ bytes_of c.args.k.now.words =
+    let printed : c.loop-word.bytes.items ≡ bytes_of c.args.config.now.words =
     c.loop-word.invariant
     ∙ ap (λ n. joined n (λ j. pair_of (slice_index words j))) all
-    ∙ ap bytes_of c.words-words.ensures in
-    ConfigOf-printed c.args.k.now c.loop-word.bytes.items c.known.ensures printed
+    ∙ ap bytes_of c.words-words.ensures.value in
+    ConfigOf-printed c.args.config.now c.loop-word.bytes.items c.words-words.ensures.known printed

@@ -1,7 +1,7 @@
 use Rattle.std.proofs.Common.{◌≡◌, ◌*◌, ap, ◌∙◌, length, arith, vec_len}
 use Rattle.fabric_defs.specs.Layout.{word_count}
 use Rattle.fabric_defs.specs.Spelling.{words_in, bytes_of}
-use Rattle.fabric_bytes.proofs.SpellingLemmas.{GivesConfigOf-exact, words_of_given, bytes_of-words_in, length-words_in, ConfigOf-same}
+use Rattle.fabric_bytes.proofs.SpellingLemmas.{OrMemory-exact, words_of_given, bytes_of-words_in, length-words_in, ConfigOf-same}
 use Rattle.fabric_bytes.proofs.reading.read_config.Goals as goal
 
 pub returns-clause-exact : goal.returns-clause-exact
@@ -11,7 +11,7 @@ returns-clause-exact c =
     let even : length c.args.b.now ≡ 2 * word_count c.args.g = omega arith in
     let count : 2 * vec_len words ≡ length c.args.b.now =
     omega (arith, words.ok.0, ap length spelled, length-words_in c.args.b.now (word_count c.args.g) even) in
-    GivesConfigOf-exact c.args.g (length c.args.b.now) (words_in c.args.b.now) c.new.result
+    OrMemory-exact c.args.g (length c.args.b.now) (words_in c.args.b.now) c.new.result
     (ConfigOf-same c.args.g _ _ words.items _ c.new.result count spelled c.new.ensures)
 
 pub returns-clause-printed_again : goal.returns-clause-printed_again

@@ -23,6 +23,7 @@ use Rattle.cnf_text_laws.proofs.HeaderWords.{one_literal}
 abbrev pub RightWord : ℕ → List ℕ → Type 0
 RightWord v w = (w ≡ zero_word) ⊎ ((l : Literal) × SpellsLiteral w l × (l.variable ≤ v))
 
+-- a literal that isn't over this many variables
 abbrev pub Outside : ℕ → List ℕ → Type 0
 Outside v w = (l : Literal) × SpellsLiteral w l × (v < l.variable)
 
@@ -42,16 +43,19 @@ step_if v end t ts fs ls e = rw e refl
 then_lit : (v end : ℕ) (ts : List Token) (fs : List Lits) (ls : Lits) → Result Literal CnfError → Result (List Lits) CnfError
 then_lit v end ts fs ls r = r >>= λ l. clauses_from v end ts fs (ls ++ l ∷ [])
 
+-- a `0` closes the clause
 pub step_zero : (v end : ℕ) (t : Token) (ts : List Token) (fs : List Lits) (ls : Lits) → t.bytes ≡ zero_word
     → clauses_from v end (t ∷ ts) fs ls ≡ clauses_from v end ts (fs ++ clause_of ls ∷ []) []
 step_zero v end t ts fs ls e = let zero : is_zero t.bytes ≡ true = ap is_zero e in rw zero refl
 
+-- a literal over the variables is read
 pub step_literal : (v end : ℕ) (t : Token) (ts : List Token) (fs : List Lits) (ls : Lits) (l : Literal) → SpellsLiteral t.bytes l → l.variable ≤ v
     → clauses_from v end (t ∷ ts) fs ls ≡ clauses_from v end ts fs (ls ++ l ∷ [])
 unfolding then_lit
 step_literal v end t ts fs ls l h le =
     step_if v end t ts fs ls (literal_nonzero t.bytes l h) ∙ ap (then_lit v end ts fs ls) (within_ok v t l h le)
 
+-- a literal that isn't over the variables is a fault
 pub step_out : (v end : ℕ) (t : Token) (ts : List Token) (fs : List Lits) (ls : Lits) (l : Literal) → SpellsLiteral t.bytes l → v < l.variable
     → clauses_from v end (t ∷ ts) fs ls ≡ Err (VarRange t.at)
 unfolding then_lit
@@ -65,6 +69,7 @@ no_literal w (Some l) e h = absurd (h (inr (l, literal_in-word w l e)))
 no_zero : (w : List ℕ) → (IsClauseWord w → ⊥) → is_zero w ≡ false
 no_zero w h = elim (cases_Bool (is_zero w)) [ inl z ↦ absurd (h (inl (is_zero-word w z))) | inr z ↦ z ]
 
+-- a word that is no word of a clause is a fault
 pub step_bad : (v end : ℕ) (t : Token) (ts : List Token) (fs : List Lits) (ls : Lits) → (IsClauseWord t.bytes → ⊥)
     → clauses_from v end (t ∷ ts) fs ls ≡ Err (Syntax t.at)
 unfolding then_lit
@@ -83,9 +88,11 @@ kind_other v w None z e = inr (inr (λ h. elim h [
   | inr k ↦ (let some : literal_in w ≡ Some k.0 = word_literal w k.0 k.1 in cc)
 ]))
 
+-- a word is right, or a literal outside, or no word of a clause
 pub kind : (v : ℕ) (w : List ℕ) → RightWord v w ⊎ (Outside v w ⊎ (IsClauseWord w → ⊥))
 kind v w = elim (cases_Bool (is_zero w)) [ inl z ↦ inl (inl (is_zero-word w z)) | inr z ↦ kind_other v w (literal_in w) z refl ]
 
+-- a right word is a word of a clause
 pub clause_word : (v : ℕ) (w : List ℕ) → RightWord v w → IsClauseWord w
 clause_word v w (inl z) = inl z
 clause_word v w (inr h) = inr (h.0, h.1)
@@ -105,10 +112,12 @@ not_outside v w (inr h) o =
 
 -- ---- the tokens that are right
 
+-- each token is 0 or a literal over this many variables
 abbrev pub AllRight : ℕ → List Token → Type 0
 AllRight v [] = Unit {0}
 AllRight v (t ∷ ts) = RightWord v t.bytes × AllRight v ts
 
+-- there is no literal
 abbrev pub is_empty : Lits → Bool
 is_empty [] = true
 is_empty (l ∷ ls) = false
@@ -161,6 +170,7 @@ run_literal v end t ts fs ls l h le r =
           ∙ sym (ends-step (is_empty ls) false t.bytes (words_of ts) other);
     }
 
+-- right tokens are read
 pub run : (v end : ℕ) (ts : List Token) (fs : List Lits) (ls : Lits) → AllRight v ts → Ran v end ts fs ls
 run v end [] fs ls h = record { read = fs; left = ls; goes_on = λ rest. refl; count = omega arith; ends = refl }
 run v end (t ∷ ts) fs ls h = elim h.0 [
@@ -170,6 +180,7 @@ run v end (t ∷ ts) fs ls h = elim h.0 [
 
 -- ---- the first token that isn't right
 
+-- the first token that isn't right, and the fault that it is
 pub record BodyFault (v end : ℕ) (ts : List Token) (e : CnfError) : Type 0 where
   pub before : List Token
   pub token : Token
@@ -189,6 +200,7 @@ judged_more v end t ts fs gs ls ms right step (inr h) =
     let b = h.1 in
     inr (h.0, record { before = t ∷ b.before; token = b.token; after = b.after; parts = ap (λ (us : List Token). t ∷ us) b.parts; right = (right, b.right); fault = b.fault }, step ∙ h.2)
 
+-- tokens of clauses are right, or one is the first that isn't
 pub judged_body : (v end : ℕ) (ts : List Token) (fs : List Lits) (ls : Lits) → Judged v end ts fs ls
 judged_body v end [] fs ls = inl tt
 judged_body v end (t ∷ ts) fs ls = elim (kind v t.bytes) [
@@ -244,6 +256,7 @@ whole_body v end ts h e =
     let r = run v end ts [] [] h in
     (r.read, run_out v end ts [] [] r ∙ at_end v end r.read r.left (r.ends ∙ e), (let k = r.count in omega arith))
 
+-- right tokens that end inside a clause end too early
 pub open_body : (v end : ℕ) (ts : List Token) → AllRight v ts → ends_in_zero true (words_of ts) ≡ false → clauses_from v end ts [] [] ≡ Err (Syntax end)
 open_body v end ts h e =
     let r = run v end ts [] [] h in

@@ -64,6 +64,7 @@ spells_literal v t ts fs ls l gs e s = record {
       ∙ s.words;
 }
 
+-- what is read is spelled
 pub spells_from : (v end : ℕ) (ts : List Token) (fs : List Lits) (ls : Lits) (gs : List Lits) → GoodLits v ls
     → clauses_from v end ts fs ls ≡ Ok gs → Spells v ts fs ls gs
 spells_from v end [] fs [] gs h e =
@@ -113,6 +114,7 @@ good_spelled v ls c s l k = let there = (s.lits l).0 k in (s.clause.literals l t
 same_clause : (v : ℕ) (ls c : Lits) → IsSpelled v ls c → c ≡ clause_of ls
 same_clause v ls c s = clause_of-ordered c ls s.clause.ordered (same_sym ls c s.lits)
 
+-- what is spelled is read
 pub reads_clauses : (v end : ℕ) (spelled cs : List Lits) (ts : List Token) (fs : List Lits) → AreSpelled v spelled cs
     → words_of ts ≡ flat_map clause_words spelled → clauses_from v end ts fs [] ≡ Ok (fs ++ cs)
 reads_clauses v end [] [] [] fs h e = ap Ok (sym (append-nil fs))

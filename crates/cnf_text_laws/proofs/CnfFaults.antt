@@ -14,8 +14,8 @@ use Rattle.clause_defs.specs.Formulas.{Formula}
 use Rattle.sat_text_defs.specs.CnfReading.{clauses_from, counted, cnf_from, cnf_in}
 use Rattle.sat_text_defs.specs.CnfText.{IsClauseWord, CanStand, IsOutOfRange, EachRight, IsWhole, Counts, FaultOf, header_end, CnfTextFault}
 use Rattle.cnf_text_laws.proofs.ClauseTokens.{Outside, AllRight, BodyFault, judged_body, fault_body, whole_body, open_body}
-use Rattle.cnf_text_laws.proofs.HeaderTokens.{Headed, stop0, bad1, bad2, bad3, short1, short2, short3, headed_alone, headed_not_alone}
-use Rattle.cnf_text_laws.proofs.RightTokens.{stands1, stands2, stands3, headed_of_each, alone_of_each, all_of_each, outside_of, each_of_parts}
+use Rattle.cnf_text_laws.proofs.HeaderTokens.{Headed, first_stops, second_stops, third_stops, fourth_stops, ends_behind_first, ends_behind_second, ends_behind_third, headed_alone, headed_not_alone}
+use Rattle.cnf_text_laws.proofs.RightTokens.{first_stands, second_stands, third_stands, headed_of_each, alone_of_each, all_of_each, outside_of, each_of_parts}
 use Rattle.cnf_text_laws.proofs.TokenOrder.{InOrder, BeginsBehind, AllBehind, tokens_in_order, all_behind, begins_behind, behind_before, behind_next}
 use Rattle.cnf_text_laws.proofs.HeaderOrNot.{answer}
 use Rattle.cnf_text_laws.proofs.CnfsRead.{cnf_from-good, cnf_from-stops, counted-same, cnf_in-short, cnf_in-long}
@@ -144,14 +144,14 @@ bad_behind end line p c d n us t after v k e h b a f =
 
 computed_bad : (end line : ℕ) (before : List Token) (t : Token) (after : List Token) → InOrder (before ++ (t ∷ after)) → EachRight line before → (CanStand line before t → ⊥)
     → cnf_from end line (before ++ (t ∷ after)) ≡ Err (Syntax t.at)
-computed_bad end line [] t after o h k = cnf_from-stops end line (t ∷ after) (Syntax t.at) (stop0 end line t after k)
+computed_bad end line [] t after o h k = cnf_from-stops end line (t ∷ after) (Syntax t.at) (first_stops end line t after k)
 computed_bad end line (p ∷ []) t after o h k =
-    cnf_from-stops end line (p ∷ t ∷ after) (Syntax t.at) (bad1 end line p t after (stands1 line p [] h) k)
+    cnf_from-stops end line (p ∷ t ∷ after) (Syntax t.at) (second_stops end line p t after (first_stands line p [] h) k)
 computed_bad end line (p ∷ c ∷ []) t after o h k =
-    cnf_from-stops end line (p ∷ c ∷ t ∷ after) (Syntax t.at) (bad2 end line p c t after (stands1 line p (c ∷ []) h) (stands2 line p c [] h) k)
+    cnf_from-stops end line (p ∷ c ∷ t ∷ after) (Syntax t.at) (third_stops end line p c t after (first_stands line p (c ∷ []) h) (second_stands line p c [] h) k)
 computed_bad end line (p ∷ c ∷ d ∷ []) t after o h k =
     cnf_from-stops end line (p ∷ c ∷ d ∷ t ∷ after) (Syntax t.at)
-    (bad3 end line p c d t after (stands1 line p (c ∷ d ∷ []) h) (stands2 line p c (d ∷ []) h) (stands3 line p c d [] h) k)
+    (fourth_stops end line p c d t after (first_stands line p (c ∷ d ∷ []) h) (second_stands line p c (d ∷ []) h) (third_stands line p c d [] h) k)
 computed_bad end line (p ∷ c ∷ d ∷ n ∷ []) t after o h k =
     let head = headed_of_each line p c d n [] h in
     elim (cases_lt t.at line) [
@@ -182,12 +182,12 @@ computed_out end line (p ∷ c ∷ d ∷ n ∷ us) t after h s o =
 
 computed_short : (end line : ℕ) (ts : List Token) → EachRight line ts → (IsWhole ts → ⊥) → cnf_from end line ts ≡ Err (Syntax end)
 computed_short end line [] h w = refl
-computed_short end line (p ∷ []) h w = cnf_from-stops end line (p ∷ []) (Syntax end) (short1 end line p (stands1 line p [] h))
+computed_short end line (p ∷ []) h w = cnf_from-stops end line (p ∷ []) (Syntax end) (ends_behind_first end line p (first_stands line p [] h))
 computed_short end line (p ∷ c ∷ []) h w =
-    cnf_from-stops end line (p ∷ c ∷ []) (Syntax end) (short2 end line p c (stands1 line p (c ∷ []) h) (stands2 line p c [] h))
+    cnf_from-stops end line (p ∷ c ∷ []) (Syntax end) (ends_behind_second end line p c (first_stands line p (c ∷ []) h) (second_stands line p c [] h))
 computed_short end line (p ∷ c ∷ d ∷ []) h w =
     cnf_from-stops end line (p ∷ c ∷ d ∷ []) (Syntax end)
-    (short3 end line p c d (stands1 line p (c ∷ d ∷ []) h) (stands2 line p c (d ∷ []) h) (stands3 line p c d [] h))
+    (ends_behind_third end line p c d (first_stands line p (c ∷ d ∷ []) h) (second_stands line p c (d ∷ []) h) (third_stands line p c d [] h))
 computed_short end line (p ∷ c ∷ d ∷ n ∷ us) h w =
     let head = headed_of_each line p c d n us h in
     headed_fault end line p c d n us head.0 head.1 (Syntax end) head.2 (alone_of_each line p c d n us h)
@@ -227,6 +227,7 @@ computed_fault end line ts NoMemory o h = absurd h
 
 -- ---- texts
 
+-- a fault that is computed of a text is the one that the text has
 pub fault_of_cnf_in : (text : List ℕ) (e : CnfError) → cnf_in text ≡ Err e → CnfTextFault text e
 fault_of_cnf_in text e f = elim (cases_Bool (nat_lt MAX_CNF_BYTES (length text))) [
   | inl test ↦
@@ -238,6 +239,7 @@ fault_of_cnf_in text e f = elim (cases_Bool (nat_lt MAX_CNF_BYTES (length text))
       inr (short, fault_computed (length text) (header_end text (tokens_of text)) (tokens_of text) e (tokens_in_order text) (sym (cnf_in-short text short) ∙ f))
 ]
 
+-- the fault that a text has is computed of it
 pub cnf_in_of_fault : (text : List ℕ) (e : CnfError) → CnfTextFault text e → cnf_in text ≡ Err e
 cnf_in_of_fault text e (inl h) = cnf_in-long text h.0 ∙ ap {B = Result Formula CnfError} (λ (x : CnfError). Err x) (sym h.1)
 cnf_in_of_fault text e (inr h) =

@@ -21,16 +21,20 @@ use Rattle.cnf_text_laws.proofs.ClausesSpelled.{spells_from, reads_clauses}
 
 -- ---- what goes on behind the header
 
+-- what goes on behind this header
 abbrev pub behind_header : ℕ → Header → Result Formula CnfError
 behind_header end h = clauses_from h.variables end h.rest [] [] >>= λ fs. counted h.variables h.clauses fs
 
+-- behind a header the clauses are read and counted
 pub cnf_from-good : (end line : ℕ) (ts : List Token) (v k : ℕ) (body : List Token) → header_in end line ts ≡ Ok (record { variables = v; clauses = k; rest = body })
     → cnf_from end line ts ≡ (clauses_from v end body [] [] >>= λ fs. counted v k fs)
 cnf_from-good end line ts v k body e = ap {B = Result Formula CnfError} (λ r. r >>= behind_header end) e
 
+-- a fault of the header is the text's
 pub cnf_from-stops : (end line : ℕ) (ts : List Token) (e : CnfError) → header_in end line ts ≡ Err e → cnf_from end line ts ≡ Err e
 cnf_from-stops end line ts e h = ap {B = Result Formula CnfError} (λ r. r >>= behind_header end) h
 
+-- as many clauses as the header says
 pub counted-same : (v : ℕ) (fs : List Lits) (k : ℕ) → length fs ≡ k → counted v k fs ≡ Ok (record { variables = v; clauses = fs })
 counted-same v fs k e = let test : (length fs == k) ≡ true = eq-eqb (length fs) k e in rw test refl
 
@@ -69,6 +73,7 @@ spells_good end line ts o g fs read count =
       same_words = s.words;
     }
 
+-- the formula that is read is spelled
 pub spells_computed : (end line : ℕ) (ts : List Token) (f : Formula) → InOrder ts → cnf_from end line ts ≡ Ok f → SpellsFormula line ts f
 spells_computed end line ts f o e = elim (answer end line ts) [
   | inl g ↦
@@ -118,6 +123,7 @@ four_tokens line (p ∷ c ∷ d ∷ n ∷ []) v k e h i j =
     }
 four_tokens line (p ∷ c ∷ d ∷ n ∷ t ∷ ts) v k e h i j = absurd (cc)
 
+-- the formula that is spelled is read
 pub computed_spells : (end line : ℕ) (ts : List Token) (f : Formula) → SpellsFormula line ts f → cnf_from end line ts ≡ Ok f
 computed_spells end line ts f s =
     let four = four_tokens line s.header f.variables (length f.clauses) s.words s.on_line s.variables s.clauses in
@@ -142,6 +148,7 @@ cnf_in-short text h =
 pub cnf_in-long : (text : List ℕ) → MAX_CNF_BYTES < length text → cnf_in text ≡ Err TooLong
 cnf_in-long text h = let test : nat_lt MAX_CNF_BYTES (length text) ≡ true = lt-ltb MAX_CNF_BYTES (length text) h in rw test refl
 
+-- a formula that is computed of a text is the one whose text it is
 pub text_of_cnf_in : (text : List ℕ) (f : Formula) → cnf_in text ≡ Ok f → CnfText text f
 text_of_cnf_in text f e = elim (cases_Bool (nat_lt MAX_CNF_BYTES (length text))) [
   | inl long ↦ absurd (let h = cnf_in-long text (ltb-true MAX_CNF_BYTES (length text) long) in cc)
@@ -150,6 +157,7 @@ text_of_cnf_in text f e = elim (cases_Bool (nat_lt MAX_CNF_BYTES (length text)))
       (le, spells_computed (length text) (header_end text (tokens_of text)) (tokens_of text) f (tokens_in_order text) (sym (cnf_in-short text le) ∙ e))
 ]
 
+-- the formula whose text it is is computed of the text
 pub cnf_in_of_text : (text : List ℕ) (f : Formula) → CnfText text f → cnf_in text ≡ Ok f
 cnf_in_of_text text f h =
     cnf_in-short text h.0 ∙ computed_spells (length text) (header_end text (tokens_of text)) (tokens_of text) f h.1

@@ -8,8 +8,8 @@ use Rattle.sat_text_defs.specs.declared.errors.CnfError.TheVariants.{Syntax}
 use Rattle.sat_text_defs.specs.CnfReading.{header_in}
 use Rattle.sat_text_defs.specs.CnfText.{p_word, cnf_word, CanStand, IsRight, EachRight, FirstBad, IsWhole}
 use Rattle.cnf_text_laws.proofs.TokenOrder.{BeginsBehind}
-use Rattle.cnf_text_laws.proofs.HeaderTokens.{NumberStands, Headed, word_cases, number_cases, max_variable, max_clauses, stop0, bad1, bad2, bad3, short1, short2, short3, headed_alone, headed_not_alone}
-use Rattle.cnf_text_laws.proofs.RightTokens.{each_nil, each1, each2, each3, each4}
+use Rattle.cnf_text_laws.proofs.HeaderTokens.{NumberStands, Headed, word_cases, number_cases, max_variable, max_clauses, first_stops, second_stops, third_stops, fourth_stops, ends_behind_first, ends_behind_second, ends_behind_third, headed_alone, headed_not_alone}
+use Rattle.cnf_text_laws.proofs.RightTokens.{each_nil, right_with_first, right_with_second, right_with_third, right_with_header}
 
 -- a header, alone on its line
 pub record Good (end line : ℕ) (ts : List Token) : Type 0 where
@@ -31,6 +31,7 @@ Stops end line ts =
     ((t : Token) × FirstBad line ts t × (header_in end line ts ≡ Err (Syntax t.at)))
     ⊎ (EachRight line ts × (IsWhole ts → ⊥) × (header_in end line ts ≡ Err (Syntax end)))
 
+-- a header or none
 abbrev pub Answer : ℕ → ℕ → List Token → Type 0
 Answer end line ts = Good end line ts ⊎ Stops end line ts
 
@@ -54,7 +55,7 @@ answer4 end line p c d n [] v k h = inl (record {
 answer4 end line p c d n (t ∷ ts) v k h = elim (cases_lt t.at line) [
   | inl lt ↦ inr (inl (
     t,
-    first_bad line (p ∷ c ∷ d ∷ n ∷ []) t ts (each4 line p c d n [] v k h (each_nil (λ us. IsRight line (p ∷ c ∷ d ∷ n ∷ us))))
+    first_bad line (p ∷ c ∷ d ∷ n ∷ []) t ts (right_with_header line p c d n [] v k h (each_nil (λ us. IsRight line (p ∷ c ∷ d ∷ n ∷ us))))
         (λ s. let le : line ≤ t.at = s.0 in omega arith),
     headed_not_alone end line p c d n t ts v k h lt,
   ))
@@ -75,44 +76,45 @@ answer4 end line p c d n (t ∷ ts) v k h = elim (cases_lt t.at line) [
 
 answer3 : (end line : ℕ) (p c d : Token) (ts : List Token) (v : ℕ) → CanStand line [] p → CanStand line (p ∷ []) c → NumberStands line MAX_VARIABLE d v → Answer end line (p ∷ c ∷ d ∷ ts)
 answer3 end line p c d [] v h i j = inr (inr (
-  each3 line p c d [] h i (j.0, (v, j.1)) (each_nil (λ us. IsRight line (p ∷ c ∷ d ∷ us))),
+  right_with_third line p c d [] h i (j.0, (v, j.1)) (each_nil (λ us. IsRight line (p ∷ c ∷ d ∷ us))),
   λ w. w,
-  short3 end line p c d h i (j.0, (v, j.1)),
+  ends_behind_third end line p c d h i (j.0, (v, j.1)),
 ))
 answer3 end line p c d (n ∷ ts) v h i j = elim (number_cases line MAX_CLAUSES n max_clauses) [
   | inl k ↦ answer4 end line p c d n ts v k.0 (record { first = h; second = i; third = j; fourth = k.1 })
   | inr bad ↦ inr (inl (
     n,
-    first_bad line (p ∷ c ∷ d ∷ []) n ts (each3 line p c d [] h i (j.0, (v, j.1)) (each_nil (λ us. IsRight line (p ∷ c ∷ d ∷ us)))) bad,
-    bad3 end line p c d n ts h i (j.0, (v, j.1)) bad,
+    first_bad line (p ∷ c ∷ d ∷ []) n ts (right_with_third line p c d [] h i (j.0, (v, j.1)) (each_nil (λ us. IsRight line (p ∷ c ∷ d ∷ us)))) bad,
+    fourth_stops end line p c d n ts h i (j.0, (v, j.1)) bad,
   ))
 ]
 
 answer2 : (end line : ℕ) (p c : Token) (ts : List Token) → CanStand line [] p → CanStand line (p ∷ []) c → Answer end line (p ∷ c ∷ ts)
-answer2 end line p c [] h i = inr (inr (each2 line p c [] h i (each_nil (λ us. IsRight line (p ∷ c ∷ us))), λ w. w, short2 end line p c h i))
+answer2 end line p c [] h i = inr (inr (right_with_second line p c [] h i (each_nil (λ us. IsRight line (p ∷ c ∷ us))), λ w. w, ends_behind_second end line p c h i))
 answer2 end line p c (d ∷ ts) h i = elim (number_cases line MAX_VARIABLE d max_variable) [
   | inl k ↦ answer3 end line p c d ts k.0 h i k.1
   | inr bad ↦ inr (inl (
     d,
-    first_bad line (p ∷ c ∷ []) d ts (each2 line p c [] h i (each_nil (λ us. IsRight line (p ∷ c ∷ us)))) bad,
-    bad2 end line p c d ts h i bad,
+    first_bad line (p ∷ c ∷ []) d ts (right_with_second line p c [] h i (each_nil (λ us. IsRight line (p ∷ c ∷ us)))) bad,
+    third_stops end line p c d ts h i bad,
   ))
 ]
 
 answer1 : (end line : ℕ) (p : Token) (ts : List Token) → CanStand line [] p → Answer end line (p ∷ ts)
-answer1 end line p [] h = inr (inr (each1 line p [] h (each_nil (λ us. IsRight line (p ∷ us))), λ w. w, short1 end line p h))
+answer1 end line p [] h = inr (inr (right_with_first line p [] h (each_nil (λ us. IsRight line (p ∷ us))), λ w. w, ends_behind_first end line p h))
 answer1 end line p (c ∷ ts) h = elim (word_cases line cnf_word c) [
   | inl i ↦ answer2 end line p c ts h i
   | inr bad ↦ inr (inl (
     c,
-    first_bad line (p ∷ []) c ts (each1 line p [] h (each_nil (λ us. IsRight line (p ∷ us)))) bad,
-    bad1 end line p c ts h bad,
+    first_bad line (p ∷ []) c ts (right_with_first line p [] h (each_nil (λ us. IsRight line (p ∷ us)))) bad,
+    second_stops end line p c ts h bad,
   ))
 ]
 
+-- tokens have a header or none
 pub answer : (end line : ℕ) (ts : List Token) → Answer end line ts
 answer end line [] = inr (inr (each_nil (IsRight line), λ w. w, refl))
 answer end line (p ∷ ts) = elim (word_cases line p_word p) [
   | inl h ↦ answer1 end line p ts h
-  | inr bad ↦ inr (inl (p, first_bad line [] p ts (each_nil (IsRight line)) bad, stop0 end line p ts bad))
+  | inr bad ↦ inr (inl (p, first_bad line [] p ts (each_nil (IsRight line)) bad, first_stops end line p ts bad))
 ]

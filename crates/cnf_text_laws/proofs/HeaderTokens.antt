@@ -29,6 +29,7 @@ word_bad end line w t ts h =
     (λ e. let parts = and_parts (nat_lt t.at line) (same_word t.bytes w) e in h (ltb-true t.at line parts.0, same_word-equal t.bytes w parts.1)) in
     rw test refl
 
+-- a token is this word on the line, or not
 pub word_cases : (line : ℕ) (w : List ℕ) (t : Token) → ((t.at < line) × (t.bytes ≡ w)) ⊎ ((t.at < line) × (t.bytes ≡ w) → ⊥)
 word_cases line w t = elim (cases_Bool (nat_lt t.at line && same_word t.bytes w)) [
   | inl e ↦ (let parts = and_parts (nat_lt t.at line) (same_word t.bytes w) e in inl (ltb-true t.at line parts.0, same_word-equal t.bytes w parts.1))
@@ -38,6 +39,7 @@ word_cases line w t = elim (cases_Bool (nat_lt t.at line && same_word t.bytes w)
       cc)
 ]
 
+-- the token is this number on the line
 abbrev pub NumberStands : ℕ → ℕ → Token → ℕ → Type 0
 NumberStands line max t n = (t.at < line) × SpellsNumber max t.bytes n
 
@@ -71,6 +73,7 @@ number_if : (line max : ℕ) (t : Token) (o : Option ℕ) → max < 2 ^ 64 → n
 number_if line max t (Some n) small e lt = inl (n, (lt, number_within-spelled max n t.bytes small e))
 number_if line max t None small e lt = inr (λ h. let found = spelled-number_within max h.1.0 t.bytes small h.1.1.0 h.1.1.1 in cc)
 
+-- a token is a number on the line, or not
 pub number_cases : (line max : ℕ) (t : Token) → max < 2 ^ 64 → ((n : ℕ) × NumberStands line max t n) ⊎ ((t.at < line) × ((n : ℕ) × SpellsNumber max t.bytes n) → ⊥)
 number_cases line max t small = elim (cases_lt t.at line) [
   | inl lt ↦ number_if line max t (number_within max t.bytes) small refl lt
@@ -102,9 +105,11 @@ header2 end line ts = number_before end line MAX_VARIABLE ts >>= λ v. header3 e
 abbrev header1 : ℕ → ℕ → List Token → Result Header CnfError
 header1 end line ts = behind_word end line cnf_word ts >>= header2 end line
 
+-- a greatest variable is a small number
 pub max_variable : MAX_VARIABLE < 2 ^ 64
 max_variable = omega arith
 
+-- a greatest number of clauses is a small number
 pub max_clauses : MAX_CLAUSES < 2 ^ 64
 max_clauses = omega arith
 
@@ -123,8 +128,9 @@ go3 end line v t ts n h = ap {B = Result Header CnfError} (λ r. r >>= λ x. hea
 go4 : (line v n : ℕ) (ts : List Token) → BeginsBehind line ts → header4 line v n ts ≡ Ok (record { variables = v; clauses = n; rest = ts })
 go4 line v n ts h = ap {B = Result Header CnfError} (λ r. r >>= λ rest. Ok (record { variables = v; clauses = n; rest = rest })) (behind_ok line ts h)
 
-pub stop0 : (end line : ℕ) (p : Token) (ts : List Token) → (CanStand line [] p → ⊥) → header_in end line (p ∷ ts) ≡ Err (Syntax p.at)
-stop0 end line p ts h = ap {B = Result Header CnfError} (λ r. r >>= header1 end line) (word_bad end line p_word p ts h)
+-- a first token that can't stand
+pub first_stops : (end line : ℕ) (p : Token) (ts : List Token) → (CanStand line [] p → ⊥) → header_in end line (p ∷ ts) ≡ Err (Syntax p.at)
+first_stops end line p ts h = ap {B = Result Header CnfError} (λ r. r >>= header1 end line) (word_bad end line p_word p ts h)
 
 stop1 : (end line : ℕ) (p c : Token) (ts : List Token) → (CanStand line (p ∷ []) c → ⊥) → header1 end line (c ∷ ts) ≡ Err (Syntax c.at)
 stop1 end line p c ts h = ap {B = Result Header CnfError} (λ r. r >>= header2 end line) (word_bad end line cnf_word c ts h)
@@ -153,34 +159,42 @@ pub header_goes_on : (end line : ℕ) (p c d n : Token) (ts : List Token) (v k :
 header_goes_on end line p c d n ts v k h =
     go0 end line p (c ∷ d ∷ n ∷ ts) h.first ∙ go1 end line p c (d ∷ n ∷ ts) h.second ∙ go2 end line d (n ∷ ts) v h.third ∙ go3 end line v n ts k h.fourth
 
+-- a header alone on its line
 pub headed_alone : (end line : ℕ) (p c d n : Token) (ts : List Token) (v k : ℕ) → Headed line p c d n v k → BeginsBehind line ts
     → header_in end line (p ∷ c ∷ d ∷ n ∷ ts) ≡ Ok (record { variables = v; clauses = k; rest = ts })
 headed_alone end line p c d n ts v k h b = header_goes_on end line p c d n ts v k h ∙ go4 line v k ts b
 
+-- a header with a fifth token on its line
 pub headed_not_alone : (end line : ℕ) (p c d n t : Token) (ts : List Token) (v k : ℕ) → Headed line p c d n v k → t.at < line
     → header_in end line (p ∷ c ∷ d ∷ n ∷ t ∷ ts) ≡ Err (Syntax t.at)
 headed_not_alone end line p c d n t ts v k h b = header_goes_on end line p c d n (t ∷ ts) v k h ∙ stop4 line v k t ts b
 
-pub bad1 : (end line : ℕ) (p c : Token) (ts : List Token) → CanStand line [] p → (CanStand line (p ∷ []) c → ⊥)
+-- a second token that can't stand
+pub second_stops : (end line : ℕ) (p c : Token) (ts : List Token) → CanStand line [] p → (CanStand line (p ∷ []) c → ⊥)
     → header_in end line (p ∷ c ∷ ts) ≡ Err (Syntax c.at)
-bad1 end line p c ts h k = go0 end line p (c ∷ ts) h ∙ stop1 end line p c ts k
+second_stops end line p c ts h k = go0 end line p (c ∷ ts) h ∙ stop1 end line p c ts k
 
-pub bad2 : (end line : ℕ) (p c d : Token) (ts : List Token) → CanStand line [] p → CanStand line (p ∷ []) c → (CanStand line (p ∷ c ∷ []) d → ⊥)
+-- a third token that can't stand
+pub third_stops : (end line : ℕ) (p c d : Token) (ts : List Token) → CanStand line [] p → CanStand line (p ∷ []) c → (CanStand line (p ∷ c ∷ []) d → ⊥)
     → header_in end line (p ∷ c ∷ d ∷ ts) ≡ Err (Syntax d.at)
-bad2 end line p c d ts h i k = go0 end line p (c ∷ d ∷ ts) h ∙ go1 end line p c (d ∷ ts) i ∙ stop2 end line p c d ts k
+third_stops end line p c d ts h i k = go0 end line p (c ∷ d ∷ ts) h ∙ go1 end line p c (d ∷ ts) i ∙ stop2 end line p c d ts k
 
-pub bad3 : (end line : ℕ) (p c d n : Token) (ts : List Token) → CanStand line [] p → CanStand line (p ∷ []) c → CanStand line (p ∷ c ∷ []) d
+-- a fourth token that can't stand
+pub fourth_stops : (end line : ℕ) (p c d n : Token) (ts : List Token) → CanStand line [] p → CanStand line (p ∷ []) c → CanStand line (p ∷ c ∷ []) d
     → (CanStand line (p ∷ c ∷ d ∷ []) n → ⊥) → header_in end line (p ∷ c ∷ d ∷ n ∷ ts) ≡ Err (Syntax n.at)
-bad3 end line p c d n ts h i j k =
+fourth_stops end line p c d n ts h i j k =
     go0 end line p (c ∷ d ∷ n ∷ ts) h ∙ go1 end line p c (d ∷ n ∷ ts) i ∙ go2 end line d (n ∷ ts) j.1.0 (j.0, j.1.1) ∙ stop3 end line j.1.0 p c d n ts k
 
-pub short1 : (end line : ℕ) (p : Token) → CanStand line [] p → header_in end line (p ∷ []) ≡ Err (Syntax end)
-short1 end line p h = go0 end line p [] h
+-- a text of one token
+pub ends_behind_first : (end line : ℕ) (p : Token) → CanStand line [] p → header_in end line (p ∷ []) ≡ Err (Syntax end)
+ends_behind_first end line p h = go0 end line p [] h
 
-pub short2 : (end line : ℕ) (p c : Token) → CanStand line [] p → CanStand line (p ∷ []) c → header_in end line (p ∷ c ∷ []) ≡ Err (Syntax end)
-short2 end line p c h i = go0 end line p (c ∷ []) h ∙ go1 end line p c [] i
+-- a text of two tokens
+pub ends_behind_second : (end line : ℕ) (p c : Token) → CanStand line [] p → CanStand line (p ∷ []) c → header_in end line (p ∷ c ∷ []) ≡ Err (Syntax end)
+ends_behind_second end line p c h i = go0 end line p (c ∷ []) h ∙ go1 end line p c [] i
 
-pub short3 : (end line : ℕ) (p c d : Token) → CanStand line [] p → CanStand line (p ∷ []) c → CanStand line (p ∷ c ∷ []) d
+-- a text of three tokens
+pub ends_behind_third : (end line : ℕ) (p c d : Token) → CanStand line [] p → CanStand line (p ∷ []) c → CanStand line (p ∷ c ∷ []) d
     → header_in end line (p ∷ c ∷ d ∷ []) ≡ Err (Syntax end)
-short3 end line p c d h i j =
+ends_behind_third end line p c d h i j =
     go0 end line p (c ∷ d ∷ []) h ∙ go1 end line p c (d ∷ []) i ∙ go2 end line d [] j.1.0 (j.0, j.1.1)

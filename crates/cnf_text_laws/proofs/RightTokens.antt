@@ -10,19 +10,24 @@ use Rattle.cnf_text_laws.proofs.HeaderWords.{one_number}
 use Rattle.cnf_text_laws.proofs.ClauseTokens.{RightWord, Outside, AllRight, clause_word, not_outside}
 use Rattle.cnf_text_laws.proofs.HeaderTokens.{Headed, max_variable}
 
+-- each token has this property of the tokens before it
 abbrev pub Each : (List Token → Token → Type 0) → List Token → Type 0
 Each P ts = (before : List Token) (t : Token) (after : List Token) → ts ≡ before ++ (t ∷ after) → P before t
 
+-- no token fails it
 pub each_nil : (P : List Token → Token → Type 0) → Each P []
 each_nil P [] t after e = absurd (cc)
 each_nil P (u ∷ us) t after e = absurd (cc)
 
+-- the first token has it
 pub each_head : (P : List Token → Token → Type 0) (t : Token) (ts : List Token) → Each P (t ∷ ts) → P [] t
 each_head P t ts h = h [] t ts refl
 
+-- the tokens behind the first one have it
 pub each_tail : (P : List Token → Token → Type 0) (t : Token) (ts : List Token) → Each P (t ∷ ts) → Each (λ before. P (t ∷ before)) ts
 each_tail P t ts h before u after e = h (t ∷ before) u after (ap (λ (us : List Token). t ∷ us) e)
 
+-- a first token and those behind it have it
 pub each_cons : (P : List Token → Token → Type 0) (t : Token) (ts : List Token) → P [] t → Each (λ before. P (t ∷ before)) ts → Each P (t ∷ ts)
 each_cons P t ts a b [] u after e = let same : t ≡ u = cc in subst (λ (x : Token). P [] x) same a
 each_cons P t ts a b (x ∷ before) u after e =
@@ -32,66 +37,79 @@ each_cons P t ts a b (x ∷ before) u after e =
 
 -- ---- the header
 
-pub each1 : (line : ℕ) (p : Token) (ts : List Token) → CanStand line [] p → Each (λ us. IsRight line (p ∷ us)) ts → EachRight line (p ∷ ts)
-each1 line p ts h k = each_cons (IsRight line) p ts (h, λ o. o) k
+-- a right first token and right ones behind it
+pub right_with_first : (line : ℕ) (p : Token) (ts : List Token) → CanStand line [] p → Each (λ us. IsRight line (p ∷ us)) ts → EachRight line (p ∷ ts)
+right_with_first line p ts h k = each_cons (IsRight line) p ts (h, λ o. o) k
 
-pub each2 : (line : ℕ) (p c : Token) (ts : List Token) → CanStand line [] p → CanStand line (p ∷ []) c → Each (λ us. IsRight line (p ∷ c ∷ us)) ts
+-- two right tokens and right ones behind them
+pub right_with_second : (line : ℕ) (p c : Token) (ts : List Token) → CanStand line [] p → CanStand line (p ∷ []) c → Each (λ us. IsRight line (p ∷ c ∷ us)) ts
     → EachRight line (p ∷ c ∷ ts)
-each2 line p c ts h i k = each1 line p (c ∷ ts) h (each_cons (λ us. IsRight line (p ∷ us)) c ts (i, λ o. o) k)
+right_with_second line p c ts h i k = right_with_first line p (c ∷ ts) h (each_cons (λ us. IsRight line (p ∷ us)) c ts (i, λ o. o) k)
 
-pub each3 : (line : ℕ) (p c d : Token) (ts : List Token) → CanStand line [] p → CanStand line (p ∷ []) c → CanStand line (p ∷ c ∷ []) d
+-- three right tokens and right ones behind them
+pub right_with_third : (line : ℕ) (p c d : Token) (ts : List Token) → CanStand line [] p → CanStand line (p ∷ []) c → CanStand line (p ∷ c ∷ []) d
     → Each (λ us. IsRight line (p ∷ c ∷ d ∷ us)) ts → EachRight line (p ∷ c ∷ d ∷ ts)
-each3 line p c d ts h i j k = each2 line p c (d ∷ ts) h i (each_cons (λ us. IsRight line (p ∷ c ∷ us)) d ts (j, λ o. o) k)
+right_with_third line p c d ts h i j k = right_with_second line p c (d ∷ ts) h i (each_cons (λ us. IsRight line (p ∷ c ∷ us)) d ts (j, λ o. o) k)
 
-pub each4 : (line : ℕ) (p c d n : Token) (ts : List Token) (v k : ℕ) → Headed line p c d n v k → Each (λ us. IsRight line (p ∷ c ∷ d ∷ n ∷ us)) ts
+-- a header and right tokens behind it
+pub right_with_header : (line : ℕ) (p c d n : Token) (ts : List Token) (v k : ℕ) → Headed line p c d n v k → Each (λ us. IsRight line (p ∷ c ∷ d ∷ n ∷ us)) ts
     → EachRight line (p ∷ c ∷ d ∷ n ∷ ts)
-each4 line p c d n ts v k h e =
-    each3 line p c d (n ∷ ts) h.first h.second (h.third.0, (v, h.third.1))
+right_with_header line p c d n ts v k h e =
+    right_with_third line p c d (n ∷ ts) h.first h.second (h.third.0, (v, h.third.1))
     (each_cons (λ us. IsRight line (p ∷ c ∷ d ∷ us)) n ts ((h.fourth.0, (k, h.fourth.1)), λ o. o) e)
 
-pub tail1 : (line : ℕ) (p : Token) (ts : List Token) → EachRight line (p ∷ ts) → Each (λ us. IsRight line (p ∷ us)) ts
-tail1 line p ts h = each_tail (IsRight line) p ts h
+-- the tokens behind the first one are right
+pub behind_first : (line : ℕ) (p : Token) (ts : List Token) → EachRight line (p ∷ ts) → Each (λ us. IsRight line (p ∷ us)) ts
+behind_first line p ts h = each_tail (IsRight line) p ts h
 
-pub tail2 : (line : ℕ) (p c : Token) (ts : List Token) → EachRight line (p ∷ c ∷ ts) → Each (λ us. IsRight line (p ∷ c ∷ us)) ts
-tail2 line p c ts h = each_tail (λ us. IsRight line (p ∷ us)) c ts (tail1 line p (c ∷ ts) h)
+-- the tokens behind the second one are right
+pub behind_second : (line : ℕ) (p c : Token) (ts : List Token) → EachRight line (p ∷ c ∷ ts) → Each (λ us. IsRight line (p ∷ c ∷ us)) ts
+behind_second line p c ts h = each_tail (λ us. IsRight line (p ∷ us)) c ts (behind_first line p (c ∷ ts) h)
 
-pub tail3 : (line : ℕ) (p c d : Token) (ts : List Token) → EachRight line (p ∷ c ∷ d ∷ ts) → Each (λ us. IsRight line (p ∷ c ∷ d ∷ us)) ts
-tail3 line p c d ts h = each_tail (λ us. IsRight line (p ∷ c ∷ us)) d ts (tail2 line p c (d ∷ ts) h)
+-- the tokens behind the third one are right
+pub behind_third : (line : ℕ) (p c d : Token) (ts : List Token) → EachRight line (p ∷ c ∷ d ∷ ts) → Each (λ us. IsRight line (p ∷ c ∷ d ∷ us)) ts
+behind_third line p c d ts h = each_tail (λ us. IsRight line (p ∷ c ∷ us)) d ts (behind_second line p c (d ∷ ts) h)
 
-pub tail4 : (line : ℕ) (p c d n : Token) (ts : List Token) → EachRight line (p ∷ c ∷ d ∷ n ∷ ts) → Each (λ us. IsRight line (p ∷ c ∷ d ∷ n ∷ us)) ts
-tail4 line p c d n ts h = each_tail (λ us. IsRight line (p ∷ c ∷ d ∷ us)) n ts (tail3 line p c d (n ∷ ts) h)
+-- the tokens behind the header are right
+pub behind_header_right : (line : ℕ) (p c d n : Token) (ts : List Token) → EachRight line (p ∷ c ∷ d ∷ n ∷ ts) → Each (λ us. IsRight line (p ∷ c ∷ d ∷ n ∷ us)) ts
+behind_header_right line p c d n ts h = each_tail (λ us. IsRight line (p ∷ c ∷ d ∷ us)) n ts (behind_third line p c d (n ∷ ts) h)
 
-pub stands1 : (line : ℕ) (p : Token) (ts : List Token) → EachRight line (p ∷ ts) → CanStand line [] p
-stands1 line p ts h = (each_head (IsRight line) p ts h).0
+-- the first one of right tokens can stand
+pub first_stands : (line : ℕ) (p : Token) (ts : List Token) → EachRight line (p ∷ ts) → CanStand line [] p
+first_stands line p ts h = (each_head (IsRight line) p ts h).0
 
-pub stands2 : (line : ℕ) (p c : Token) (ts : List Token) → EachRight line (p ∷ c ∷ ts) → CanStand line (p ∷ []) c
-stands2 line p c ts h = (each_head (λ us. IsRight line (p ∷ us)) c ts (tail1 line p (c ∷ ts) h)).0
+-- the second one of right tokens can stand
+pub second_stands : (line : ℕ) (p c : Token) (ts : List Token) → EachRight line (p ∷ c ∷ ts) → CanStand line (p ∷ []) c
+second_stands line p c ts h = (each_head (λ us. IsRight line (p ∷ us)) c ts (behind_first line p (c ∷ ts) h)).0
 
-pub stands3 : (line : ℕ) (p c d : Token) (ts : List Token) → EachRight line (p ∷ c ∷ d ∷ ts) → CanStand line (p ∷ c ∷ []) d
-stands3 line p c d ts h = (each_head (λ us. IsRight line (p ∷ c ∷ us)) d ts (tail2 line p c (d ∷ ts) h)).0
+-- the third one of right tokens can stand
+pub third_stands : (line : ℕ) (p c d : Token) (ts : List Token) → EachRight line (p ∷ c ∷ d ∷ ts) → CanStand line (p ∷ c ∷ []) d
+third_stands line p c d ts h = (each_head (λ us. IsRight line (p ∷ c ∷ us)) d ts (behind_second line p c (d ∷ ts) h)).0
 
-pub stands4 : (line : ℕ) (p c d n : Token) (ts : List Token) → EachRight line (p ∷ c ∷ d ∷ n ∷ ts) → CanStand line (p ∷ c ∷ d ∷ []) n
-stands4 line p c d n ts h = (each_head (λ us. IsRight line (p ∷ c ∷ d ∷ us)) n ts (tail3 line p c d (n ∷ ts) h)).0
+-- the fourth one of right tokens can stand
+pub fourth_stands : (line : ℕ) (p c d n : Token) (ts : List Token) → EachRight line (p ∷ c ∷ d ∷ n ∷ ts) → CanStand line (p ∷ c ∷ d ∷ []) n
+fourth_stands line p c d n ts h = (each_head (λ us. IsRight line (p ∷ c ∷ d ∷ us)) n ts (behind_third line p c d (n ∷ ts) h)).0
 
 -- right tokens that are four or more begin with a header
 pub headed_of_each : (line : ℕ) (p c d n : Token) (ts : List Token) → EachRight line (p ∷ c ∷ d ∷ n ∷ ts) → (v : ℕ) × (k : ℕ) × Headed line p c d n v k
 headed_of_each line p c d n ts h =
-    let third = stands3 line p c d (n ∷ ts) h in
-    let fourth = stands4 line p c d n ts h in (
+    let third = third_stands line p c d (n ∷ ts) h in
+    let fourth = fourth_stands line p c d n ts h in (
       third.1.0,
       fourth.1.0,
       record {
-        first = stands1 line p (c ∷ d ∷ n ∷ ts) h;
-        second = stands2 line p c (d ∷ n ∷ ts) h;
+        first = first_stands line p (c ∷ d ∷ n ∷ ts) h;
+        second = second_stands line p c (d ∷ n ∷ ts) h;
         third = (third.0, third.1.1);
         fourth = (fourth.0, fourth.1.1);
       },
     )
 
+-- the header of right tokens is alone on its line
 pub alone_of_each : (line : ℕ) (p c d n : Token) (ts : List Token) → EachRight line (p ∷ c ∷ d ∷ n ∷ ts) → BeginsBehind line ts
 alone_of_each line p c d n [] h = tt
 alone_of_each line p c d n (t ∷ ts) h =
-    (each_head (λ us. IsRight line (p ∷ c ∷ d ∷ n ∷ us)) t ts (tail4 line p c d n (t ∷ ts) h)).0.0
+    (each_head (λ us. IsRight line (p ∷ c ∷ d ∷ n ∷ us)) t ts (behind_header_right line p c d n (t ∷ ts) h)).0.0
 
 -- ---- the clauses
 
@@ -108,9 +126,10 @@ all_of P v f [] h = tt
 all_of P v f (t ∷ ts) h =
     (f [] t (each_head P t ts h), all_of (λ before. P (t ∷ before)) v (λ before u k. f (t ∷ before) u k) ts (each_tail P t ts h))
 
+-- the tokens behind the header of right tokens are right words
 pub all_of_each : (line : ℕ) (p c d n : Token) (ts : List Token) (v : ℕ) → SpellsNumber MAX_VARIABLE d.bytes v → EachRight line (p ∷ c ∷ d ∷ n ∷ ts) → AllRight v ts
 all_of_each line p c d n ts v num h =
-    all_of (λ us. IsRight line (p ∷ c ∷ d ∷ n ∷ us)) v (right_word line p c d n v num) ts (tail4 line p c d n ts h)
+    all_of (λ us. IsRight line (p ∷ c ∷ d ∷ n ∷ us)) v (right_word line p c d n v num) ts (behind_header_right line p c d n ts h)
 
 -- what is outside the header's variables
 pub outside_of : (p c d n : Token) (us : List Token) (t : Token) (v : ℕ) → SpellsNumber MAX_VARIABLE d.bytes v → IsOutOfRange (p ∷ c ∷ d ∷ n ∷ us) t → Outside v t.bytes
@@ -125,9 +144,10 @@ each_of_all P line v f [] b h = each_nil P
 each_of_all P line v f (t ∷ ts) b h =
     each_cons P t ts (f [] t b.0 h.0) (each_of_all (λ before. P (t ∷ before)) line v (λ before u i k. f (t ∷ before) u i k) ts b.1 h.1)
 
+-- a header alone on its line and right words behind it
 pub each_of_parts : (line : ℕ) (p c d n : Token) (ts : List Token) (v k : ℕ) → Headed line p c d n v k → AllBehind line ts → AllRight v ts
     → EachRight line (p ∷ c ∷ d ∷ n ∷ ts)
 each_of_parts line p c d n ts v k h b a =
-    each4 line p c d n ts v k h
+    right_with_header line p c d n ts v k h
     (each_of_all (λ us. IsRight line (p ∷ c ∷ d ∷ n ∷ us)) line v
     (λ us u i w. ((i, clause_word v u.bytes w), λ o. not_outside v u.bytes w (outside_of p c d n us u v h.third.1 o))) ts b a)

@@ -58,6 +58,7 @@ abbrev pub BeginsBehind : ℕ → List Token → Type 0
 BeginsBehind line [] = Unit {0}
 BeginsBehind line (t ∷ ts) = line ≤ t.at
 
+-- each token stands behind the end of the line
 abbrev pub AllBehind : ℕ → List Token → Type 0
 AllBehind line [] = Unit {0}
 AllBehind line (t ∷ ts) = (line ≤ t.at) × AllBehind line ts
@@ -66,27 +67,33 @@ behind_each : (line : ℕ) (ts : List Token) → ((t : Token) → Has ts t → l
 behind_each line [] h = tt
 behind_each line (t ∷ ts) h = (h t (inl refl), behind_each line ts (λ u k. h u (inr k)))
 
+-- tokens in order stand behind the line's end where the first one does
 pub all_behind : (line : ℕ) (ts : List Token) → InOrder ts → BeginsBehind line ts → AllBehind line ts
 all_behind line [] o b = tt
 all_behind line (t ∷ ts) o b = (b, behind_each line ts (λ u k. (let le : t.at ≤ u.at = o.0 u k in let low : line ≤ t.at = b in omega arith)))
 
+-- the first of tokens behind the line's end is behind it
 pub begins_behind : (line : ℕ) (ts : List Token) → AllBehind line ts → BeginsBehind line ts
 begins_behind line [] h = tt
 begins_behind line (t ∷ ts) h = h.0
 
+-- so it is where each one is
 pub begins_each : (line : ℕ) (ts : List Token) → ((t : Token) → Has ts t → line ≤ t.at) → BeginsBehind line ts
 begins_each line [] h = tt
 begins_each line (t ∷ ts) h = h t (inl refl)
 
+-- each of tokens behind the line's end is behind it
 pub each_is_behind : (line : ℕ) (ts : List Token) → AllBehind line ts → (t : Token) → Has ts t → line ≤ t.at
 each_is_behind line [] h t k = absurd k
 each_is_behind line (u ∷ us) h t (inl e) = let same : u.at ≡ t.at = ap (λ (x : Token). x.at) e in let le : line ≤ u.at = h.0 in omega arith
 each_is_behind line (u ∷ us) h t (inr k) = each_is_behind line us h.1 t k
 
+-- and each of the first ones
 pub behind_before : (line : ℕ) (before rest : List Token) → AllBehind line (before ++ rest) → AllBehind line before
 behind_before line [] rest h = tt
 behind_before line (u ∷ us) rest h = (h.0, behind_before line us rest h.1)
 
+-- and the one behind these
 pub behind_next : (line : ℕ) (before : List Token) (t : Token) (after : List Token) → AllBehind line (before ++ (t ∷ after)) → line ≤ t.at
 behind_next line [] t after h = h.0
 behind_next line (u ∷ us) t after h = behind_next line us t after h.1

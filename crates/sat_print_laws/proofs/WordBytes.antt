@@ -39,6 +39,7 @@ longer b c n bs false e h = let goes_on : number_in (b ∷ c ∷ bs) ≡ number_
 
 -- ---- words
 
+-- the first byte of a word
 abbrev pub first_byte : List ℕ → ℕ
 first_byte [] = 0
 first_byte (b ∷ bs) = b

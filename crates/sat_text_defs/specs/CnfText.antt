@@ -21,11 +21,13 @@ pub data Place : Type 0 where
   later : Place
   comment : Place
 
+-- a byte of a comment line, where it stands so
 abbrev pub is_comment : Place → ℕ → Bool
 is_comment first b = b == 99
 is_comment later b = false
 is_comment comment b = not (b == 10)
 
+-- where the byte behind this one stands
 abbrev pub place_after : Place → ℕ → Place
 place_after p b = if b == 10 then first else (if is_comment p b then comment else later)
 
@@ -45,10 +47,11 @@ line_end at (b ∷ bs) = if b == 10 then at else line_end (at + 1) bs
 
 -- ---- texts of CNFs
 
--- the words `p` and `cnf`
+-- the word `p`
 abbrev pub p_word : List ℕ
 p_word = 112 ∷ []
 
+-- the word `cnf`
 abbrev pub cnf_word : List ℕ
 cnf_word = 99 ∷ 110 ∷ 102 ∷ []
 

@@ -40,6 +40,7 @@ entry_text t index stated antecedents =
     number_text index
     ++ (stated_text stated ++ (flat_map (λ p. number_text (index_at t p)) antecedents ++ (48 ∷ 10 ∷ [])))
 
+-- the line of a clause of the trace t
 abbrev pub trace_line : List Entry → Entry → List ℕ
 trace_line t e = entry_text t e.index e.stated e.antecedents
 

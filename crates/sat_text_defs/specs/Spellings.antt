@@ -22,6 +22,7 @@ is_sign w = is_byte 42 w
 abbrev pub index_in : List ℕ → Option ℕ
 index_in w = positive_within MAX_INDEX w
 
+-- the literal of a variable with this sign
 abbrev pub literal : Bool → ℕ → Literal
 literal positive variable = record { variable = variable; positive = positive }
 

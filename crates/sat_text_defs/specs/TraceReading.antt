@@ -66,6 +66,7 @@ abbrev pub places_from : List ℕ → List ℕ → List ℕ → Result (List ℕ
 places_from indices ps [] = Ok ps
 places_from indices ps (x ∷ xs) = ok_or (place_of indices x) x >>= λ p. places_from indices (ps ++ p ∷ []) xs
 
+-- the indices of the clauses
 abbrev pub indices_of : List Entry → List ℕ
 indices_of t = map (λ (e : Entry). e.index) t
 

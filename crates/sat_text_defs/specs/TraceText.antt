@@ -62,6 +62,7 @@ pub record SpellsTrace (v : ℕ) (ws : List (List ℕ)) (t : List Entry) : Type 
   pub same_clauses : AreSpelled t spelled t
   pub same_words : ws ≡ flat_map clause_words spelled
 
+-- the tokens of a trace's text
 abbrev pub tokens_of : List ℕ → List Token
 tokens_of text = tokens separates 0 text
 

@@ -9,6 +9,7 @@ use Rattle.text_defs.specs.Tokens.{Token}
 abbrev pub separates : ℕ → Bool
 separates b = (b == 32) || (b == 9) || (b == 13) || (b == 10)
 
+-- the word of a token
 abbrev pub bytes_of : Token → List ℕ
 bytes_of t = t.bytes
 

@@ -25,6 +25,7 @@ place_from-found k (suc p) (d ∷ es) x lt e first =
     let same : k + 1 + p ≡ k + suc p = omega arith in
     rw other (rest ∙ ap Some same)
 
+-- an index that no clause has has no place
 pub place_from-none : (k : ℕ) (es : List Entry) (x : ℕ) → ((j : ℕ) → j < length es → index_at es j ≢ x) → place_from k (indices_of es) x ≡ None
 place_from-none k [] x none = refl
 place_from-none k (d ∷ es) x none =
@@ -42,6 +43,7 @@ found_at k q d es x false e h rest =
     let within : found.0 < length es = found.2 in
     (suc found.0, omega arith, omega arith, found.3)
 
+-- an index that has a place stands there
 pub place_from-some : (k q : ℕ) (es : List Entry) (x : ℕ) → place_from k (indices_of es) x ≡ Some q
     → (p : ℕ) × (q ≡ k + p) × (p < length es) × (index_at es p ≡ x)
 place_from-some k q [] x h = absurd (cc)
@@ -55,11 +57,13 @@ none_at k d es x false e h = (refl, h)
 not_equal : (a b : ℕ) → (a == b) ≡ false → a ≢ b
 not_equal a b h e = let t : (a == b) ≡ true = eq-eqb a b e in cc
 
+-- an index that has no place stands nowhere
 pub place_from-nowhere : (k : ℕ) (es : List Entry) (x : ℕ) → place_from k (indices_of es) x ≡ None → (j : ℕ) → j < length es → index_at es j ≢ x
 place_from-nowhere k [] x h j lt = absurd (omega arith)
 place_from-nowhere k (d ∷ es) x h zero lt = not_equal d.index x (none_at k d es x (d.index == x) refl h).0
 place_from-nowhere k (d ∷ es) x h (suc j) lt = place_from-nowhere (k + 1) es x (none_at k d es x (d.index == x) refl h).1 j (omega arith)
 
+-- the place of an index is one where it stands
 pub place_of-some : (es : List Entry) (x q : ℕ) → place_of (indices_of es) x ≡ Some q → (q < length es) × (index_at es q ≡ x)
 place_of-some es x q h =
     let found = place_from-some 0 q es x h in
@@ -72,6 +76,7 @@ place_of-some es x q h =
 within-snoc : (t : List Entry) (ps : List ℕ) (q : ℕ) → AreWithin t ps → q < length t → AreWithin t (ps ++ q ∷ [])
 within-snoc t ps q h lt p i = elim (Has-snoc ps q p i) [ inl j ↦ h p j | inr e ↦ subst (λ n. n < length t) e lt ]
 
+-- the places of several indices are places where they stand
 pub places_from-ok : (t : List Entry) (ps xs qs : List ℕ) → AreWithin t ps → places_from (indices_of t) ps xs ≡ Ok qs
     → AreWithin t qs × (map (index_at t) qs ≡ map (index_at t) ps ++ xs)
 places_from-ok t ps [] qs h e =
@@ -123,6 +128,7 @@ judged-ok t s u e =
 
 -- ---- clauses by index
 
+-- an index that stands at a place is there
 pub HasIndex-at : (es : List Entry) (p x : ℕ) → p < length es → index_at es p ≡ x → HasIndex es x
 HasIndex-at [] p x lt e = absurd (omega arith)
 HasIndex-at (d ∷ es) zero x lt e = (d, inl refl, e)
@@ -136,9 +142,11 @@ at_place (d ∷ es) e x (inr h) same =
     let below : more.0 < length es = more.1 in
     (suc more.0, omega arith, more.2)
 
+-- no clause has an index that has no place
 pub none_has : (t : List Entry) (x : ℕ) → place_of (indices_of t) x ≡ None → HasIndex t x → ⊥
 none_has t x e h = let found = at_place t h.0 x h.1 h.2 in place_from-nowhere 0 t x e found.0 found.1 found.2
 
+-- some clause has an index that has a place
 pub some_has : (t : List Entry) (x q : ℕ) → place_of (indices_of t) x ≡ Some q → HasIndex t x
 some_has t x q e = let found = place_of-some t x q e in HasIndex-at t q x found.0 found.1
 
@@ -146,6 +154,7 @@ known_more : (t : List Entry) (y : ℕ) (known : List ℕ) → HasIndex t y → 
 known_more t y known one h z (inl e) = (one.0, one.1, one.2 ∙ e)
 known_more t y known one h z (inr i) = h z i
 
+-- why the places of several indices are wanting
 pub places_from-err : (t : List Entry) (ps xs : List ℕ) (x : ℕ) → places_from (indices_of t) ps xs ≡ Err x → FirstUnknown t xs x
 places_from-err t ps [] x e = absurd (cc)
 places_from-err t ps (y ∷ ys) x e = elim (bind_err (ok_or (place_of (indices_of t) y) y) (λ p. places_from (indices_of t) (ps ++ p ∷ []) ys) x e) [
@@ -188,6 +197,7 @@ judged_by t s f None e h =
     let found = not_placed t s (places_from (indices_of t) [] s.antecedents) f h in
     inr (found.0, none_has t s.index e, places_from-err t [] s.antecedents found.0 found.1, found.2)
 
+-- why a clause is judged faulty
 pub judged-err : (t : List Entry) (s : Spelled) (f : TraceError) → judged t s ≡ Err f → IsJudged t s f
 judged-err t s f e = judged_by t s f (place_of (indices_of t) s.index) refl e
 
@@ -216,9 +226,11 @@ places_unknown t ps (y ∷ known) after x h none =
     ap (λ (o : Option ℕ). ok_or o y >>= λ p. places_from (indices_of t) (ps ++ p ∷ []) (known ++ (x ∷ after))) one.1
     ∙ places_unknown t (ps ++ one.0 ∷ []) known after x (λ z i. h z (inr i)) none
 
+-- a clause whose index is there already is judged so
 pub judged-repeated : (t : List Entry) (s : Spelled) → HasIndex t s.index → judged t s ≡ Err (Repeated s.index)
 judged-repeated t s h = judged_twice t s (place_of (indices_of t) s.index) refl h
 
+-- a clause with an antecedent that isn't there is judged so
 pub judged-unknown : (t : List Entry) (s : Spelled) (x : ℕ) → (HasIndex t s.index → ⊥) → FirstUnknown t s.antecedents x → judged t s ≡ Err (Unknown s.index x)
 judged-unknown t s x none h =
     judged_when t s None (place_none t s.index (place_of (indices_of t) s.index) refl none)

@@ -22,12 +22,15 @@ open_words (among_lits i ls) = decimal i ∷ map literal_word ls
 open_words (reading.behind_sign i) = decimal i ∷ sign_word ∷ []
 open_words (among_antecedents i stated xs) = decimal i ∷ (stated_words stated ++ map decimal xs)
 
+-- a number that can be an index
 abbrev pub IsIndex : ℕ → Type 0
 IsIndex i = (1 ≤ i) × (i ≤ MAX_INDEX)
 
+-- literals within the limits
 abbrev pub AreLiterals : Lits → Type 0
 AreLiterals ls = (l : Literal) → Has ls l → IsLiteral l
 
+-- numbers that can be indices
 abbrev pub AreIndices : List ℕ → Type 0
 AreIndices xs = (x : ℕ) → Has xs x → IsIndex x
 

@@ -8,7 +8,7 @@ use Rattle.net_defs.specs.Networks.{Output, Network, node_at, signals}
 use Rattle.net_defs.specs.Evaluation.{allows, hits, node_bit, bits_at, output_signals, Settles, SpecOut}
 use Rattle.net_defs.specs.Nets.{IsNet}
 use Rattle.net_defs.proofs.AssignmentLemmas.{bits_at-same, assignment_exists}
-use Rattle.netlist.specs.Orders.{IsKnown, IsOrder}
+use Rattle.net_defs.specs.Orders.{IsKnown, IsOrder}
 use Rattle.netlist.specs.Places.{SameBits, Completes}
 
 -- the rest of a row hits where its next mark allows its bit, and what is left after that hits
@@ -45,7 +45,7 @@ pub Swept-more : (net : Network) (order s x a : List ℕ) (j v bit : ℕ) → Se
     → Swept net (take (j + 1) order) (set s (length net.inputs + v) bit) a
 Swept-more net order s x a j v bit settles is_order h lt at places bit_is =
     let n : ℕ = length net.inputs in
-    let v_lt : v < length net.nodes = let P : ℕ → Type 0 = λ m. m < length net.nodes in subst P (sym at) (is_order.within j 0 lt) in
+    let v_lt : v < length net.nodes = let P : ℕ → Type 0 = λ m. m < length net.nodes in subst P (sym at) (is_order.nodes.within j 0 lt) in
     let known : All (IsKnown net (take j order)) (node_at net v).fan_ins =
     let P : ℕ → Type 0 = λ m. All (IsKnown net (take j order)) (node_at net m).fan_ins in subst P (sym at) (is_order.after j lt) in
     let same : bits_at s (node_at net v).fan_ins ≡ bits_at a (node_at net v).fan_ins =
@@ -81,7 +81,7 @@ Swept-all net order s a j is_order h le i i_lt =
     (λ past. let e : n + (i - n) ≡ i = omega arith in
     let P : ℕ → Type 0 = λ m. get_or s m 0 ≡ get_or a m 0 in
     let Q : List ℕ → Type 0 = λ l. Contains l (i - n) in
-    subst P e (h.nodes_done (i - n) (subst Q (sym (take_all j order le)) (is_order.complete (i - n) (omega arith)))))
+    subst P e (h.nodes_done (i - n) (subst Q (sym (take_all j order le)) (is_order.nodes.complete (i - n) (omega arith)))))
     (cases_lt i n)
 
 -- one more output bit

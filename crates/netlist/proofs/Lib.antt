@@ -10,3 +10,4 @@ pub mod NetworkLemmas
 pub mod RowLemmas
 pub mod MoveLemmas
 pub mod PartnerLemmas
+pub mod FaultLemmas

@@ -8,7 +8,7 @@ use Rattle.net_defs.specs.Networks.{Network, node_at}
 use Rattle.net_laws.proofs.PlaceLemmas.{zip_at, zip_length}
 use Rattle.net_laws.proofs.AlignLemmas.{inputs_count, nodes_count, node_at-aligned}
 use Rattle.net_laws.proofs.NetLemmas.{Known-moved}
-use Rattle.netlist.specs.Orders.{ComesAfterFanIns, IsOrder}
+use Rattle.net_defs.specs.Orders.{ComesAfterFanIns, IsOrder}
 use Rattle.netlist.specs.Moves.{IsInverse}
 
 -- once each place has put its number at its partner, the lists are inverse
@@ -39,13 +39,13 @@ ComesAfterFanIns-aligned design p net order pairs h within after = λ j j_lt i d
     (zip_at (IsMoved p.inputs) (node_at design v).fan_ins (node_at net v).fan_ins i 0 d moved.fan_ins lt2)
     (subst P same (after j j_lt i 0 lt2))
 
+-- an order of the design is one of the aligned network
 pub IsOrder-aligned : (design : Network) (p : PlacePairs) (net : Network) (order : List ℕ) → Pairs design p → IsAligned design p net → IsOrder design order
     → IsOrder net order
 IsOrder-aligned design p net order pairs h is =
     let count : length design.nodes ≡ length net.nodes = sym (nodes_count design p net h) in
-    let P : ℕ → Type 0 = λ n. All (λ v. v < n) order in
+    let P : ℕ → Type 0 = λ n. IsRearrangement n order in
     record {
-      within = subst P count is.within;
-      complete = λ v lt. is.complete v (omega (arith, count));
-      after = ComesAfterFanIns-aligned design p net order pairs h is.within is.after;
+      nodes = subst P count is.nodes;
+      after = ComesAfterFanIns-aligned design p net order pairs h is.nodes.within is.after;
     }

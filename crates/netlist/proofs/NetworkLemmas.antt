@@ -1,5 +1,5 @@
 -- The network of a design that was read is within the limits.
-use Rattle.std.proofs.Common.{◌≡◌, ℕ, ◌<◌, ◌≤◌, ⊎_elim, false, List, [], ◌∷◌, ◌++◌, length, map, get_or, All, sum_by, refl, ap, sym, subst, ◌∙◌, arith, Err, length-append}
+use Rattle.std.proofs.Common.{◌≡◌, ℕ, ◌<◌, ◌≤◌, ⊎_elim, inl, inr, false, List, [], ◌∷◌, ◌++◌, length, map, get_or, All, sum_by, refl, ap, sym, subst, ◌∙◌, arith, Err, length-append}
 use Rattle.std.proofs.lemmas.List.{get_or_append_left, get_or_past}
 use Rattle.std.proofs.lemmas.List.Elements.{All-from_recursion}
 use Rattle.std.proofs.lemmas.List.Sums.{sum_by-cons}
@@ -13,20 +13,23 @@ use Rattle.blif_defs.specs.declared.mark.TheConstants.{MAX_SIGNALS}
 use Rattle.net_defs.specs.Networks.{Node, Output, Network, no_node, node_at, signals}
 use Rattle.net_defs.specs.Settling.{IsAcyclic}
 use Rattle.net_defs.specs.Nets.{IsNode, IsNet}
-use Rattle.net_defs.specs.NetOf.{signal_names, no_cover, IsNameOf, IsNodeOf, IsOutputOf, IsNetworkOf}
+use Rattle.net_defs.specs.NetOf.{signal_names, no_cover, IsNameOf, IsNodeOf, IsOutputOf, IsNetworkOf, NetOf}
 use Rattle.net_defs.specs.declared.faults.NetError.{NetError}
-use Rattle.net_defs.specs.declared.faults.NetError.TheVariants.{UndrivenPin, UndrivenOutput, Cycle, NoMemory}
-use Rattle.netlist.specs.Resolving.{GivesNodes, GivesOutputs, GivesParts}
+use Rattle.net_defs.specs.declared.faults.NetError.TheVariants.{NoMemory}
+use Rattle.text_defs.specs.Memory.{OrMemory}
+use Rattle.netlist.specs.Resolving.{NodesOf, OutputsOf, NetworkOf}
+use Rattle.netlist.specs.Orders.{OrderOf}
 use Rattle.netlist.specs.Sortings.{HasFanInsWithin, HasShortNodes}
 use Rattle.netlist.proofs.IndexLemmas.{length-signals_of}
-use Rattle.netlist.proofs.ZipLemmas.{all_zip-at, all_zip-length, all_zip-right}
-use Rattle.netlist.proofs.BuildLemmas.{nodes_driven}
+use Rattle.netlist.proofs.ZipLemmas.{all_zip-right}
+use Rattle.net_laws.proofs.PlaceLemmas.{zip_at, zip_length}
+use Rattle.net_laws.proofs.NetworkLemmas.{nodes_driven}
 
 -- there are as many signals as names of signals
 length-signal_names : (b : BlifValue) (net : Network) → IsNetworkOf b net → length (signal_names b) ≡ signals net
 length-signal_names b net h =
     let e = length-signals_of b.inputs b.covers in
-    let n = all_zip-length (IsNodeOf b) b.covers net.nodes h.nodes in
+    let n = zip_length (IsNodeOf b) b.covers net.nodes h.nodes in
     let i = ap length h.inputs in
     omega (arith, e, n, i)
 
@@ -44,24 +47,27 @@ cover_at b v is lt d = All-from_recursion IsCover b.covers is.covers v d lt
 is_node : (b : BlifValue) (net : Network) (cover : CoverValue) (node : Node) → IsNetworkOf b net → IsCover cover → IsNodeOf b cover node
     → IsNode (signals net) node
 is_node b net cover node h is at =
-    let size : length node.fan_ins ≡ length cover.ins = all_zip-length (IsNameOf b) cover.ins node.fan_ins at.fan_ins in
+    let size : length node.fan_ins ≡ length cover.ins = zip_length (IsNameOf b) cover.ins node.fan_ins at.fan_ins in
     let P : List (List _) → Type 0 = λ rows. All (λ row. length row ≡ length node.fan_ins) rows in
     let Q : ℕ → Type 0 = λ n. All (λ row. length row ≡ n) cover.rows in
     record {
       fan_ins_within = omega (arith, is.within, size);
       fan_ins = fan_ins_within b net cover node h at;
       rows = subst P (sym at.rows) (subst Q (sym size) (All-from_recursion (λ row. length row ≡ length cover.ins) cover.rows is.rows));
+      on = λ none. at.on ∙ is.on (sym at.rows ∙ none);
     }
 
 all_nodes : (b : BlifValue) (net : Network) → IsNetworkOf b net → IsBlif b → All (IsNode (signals net)) net.nodes
 all_nodes b net h is = λ v d lt.
-    let lt2 : v < length b.covers = omega (arith, all_zip-length (IsNodeOf b) b.covers net.nodes h.nodes) in
+    let lt2 : v < length b.covers = omega (arith, zip_length (IsNodeOf b) b.covers net.nodes h.nodes) in
     is_node b net (get_or b.covers v no_cover) (get_or net.nodes v d) h (cover_at b v is lt2 no_cover)
-    (all_zip-at (IsNodeOf b) b.covers net.nodes v no_cover d h.nodes lt2)
+    (zip_at (IsNodeOf b) b.covers net.nodes v no_cover d h.nodes lt2)
 
+-- no node has more fan-ins than a cover may have
 pub HasShortNodes-built : (b : BlifValue) (net : Network) → IsNetworkOf b net → IsBlif b → HasShortNodes net
 HasShortNodes-built b net h is = λ v d lt. (all_nodes b net h is v d lt).fan_ins_within
 
+-- every fan-in is a signal
 pub HasFanInsWithin-built : (b : BlifValue) (net : Network) → IsNetworkOf b net → IsBlif b → HasFanInsWithin net
 HasFanInsWithin-built b net h is v k k_lt =
     ⊎_elim
@@ -71,8 +77,9 @@ HasFanInsWithin-built b net h is v k k_lt =
     let none : k < 0 = subst P e k_lt in absurd (omega arith))
     (cases_lt v (length net.nodes))
 
+-- there are no more nodes than signals
 pub few_nodes-built : (b : BlifValue) (net : Network) → IsNetworkOf b net → IsBlif b → length net.nodes ≤ MAX_SIGNALS
-few_nodes-built b net h is = omega (arith, is.signals_within, all_zip-length (IsNodeOf b) b.covers net.nodes h.nodes)
+few_nodes-built b net h is = omega (arith, is.signals_within, zip_length (IsNodeOf b) b.covers net.nodes h.nodes)
 
 -- a front of distinct names has distinct names
 IsDistinct-front : (xs ys : List (List ℕ)) → IsDistinct bytes_eq (xs ++ ys) → IsDistinct bytes_eq xs
@@ -106,8 +113,8 @@ same_size b (c ∷ cs) (n ∷ ns) h =
 pub IsNet-built : (b : BlifValue) (net : Network) → IsNetworkOf b net → IsBlif b → IsAcyclic net → IsNet net
 IsNet-built b net h is acyclic =
     let inputs_size : length net.inputs ≡ length b.inputs = ap length h.inputs in
-    let outputs_size : length net.outputs ≡ length b.outputs = all_zip-length (IsOutputOf b) b.outputs net.outputs h.outputs in
-    let nodes_size : length net.nodes ≡ length b.covers = all_zip-length (IsNodeOf b) b.covers net.nodes h.nodes in
+    let outputs_size : length net.outputs ≡ length b.outputs = zip_length (IsOutputOf b) b.outputs net.outputs h.outputs in
+    let nodes_size : length net.nodes ≡ length b.covers = zip_length (IsNodeOf b) b.covers net.nodes h.nodes in
     let P : List (List ℕ) → Type 0 = λ l. IsDistinct bytes_eq l in
     record {
       inputs_within = omega (arith, inputs_size, is.inputs_within);
@@ -123,15 +130,20 @@ IsNet-built b net h is acyclic =
       acyclic = acyclic;
     }
 
--- the fault of the nodes, or of the outputs, is that of the parts
-pub GivesParts-nodes : (b : BlifValue) (e : NetError) → GivesNodes b (Err e) → GivesParts b (Err e)
-GivesParts-nodes b (UndrivenPin n p) h = h
-GivesParts-nodes b (UndrivenOutput p) h = absurd h
-GivesParts-nodes b (Cycle u) h = absurd h
-GivesParts-nodes b NoMemory h = tt
+-- the fault of the nodes, or of the outputs, is that of the network
+pub NetworkOf-nodes : (b : BlifValue) (e : NetError) → OrMemory NoMemory (NodesOf b) (Err e) → OrMemory NoMemory (NetworkOf b) (Err e)
+NetworkOf-nodes b e h =
+    let P : NetError → Type 0 = λ f. NetOf b (Err f) in
+    ⊎_elim (λ memory. inl memory) (λ fault. inr (subst P (sym fault.2) fault.3)) h
 
-pub GivesParts-outputs : (b : BlifValue) (nodes : List Node) (e : NetError) → AllZip (IsNodeOf b) b.covers nodes → GivesOutputs b (Err e) → GivesParts b (Err e)
-GivesParts-outputs b nodes (UndrivenPin n p) made h = absurd h
-GivesParts-outputs b nodes (UndrivenOutput p) made h = (nodes_driven b b.covers nodes made, h)
-GivesParts-outputs b nodes (Cycle u) made h = absurd h
-GivesParts-outputs b nodes NoMemory made h = tt
+pub NetworkOf-outputs : (b : BlifValue) (nodes : List Node) (e : NetError) → AllZip (IsNodeOf b) b.covers nodes → OrMemory NoMemory (OutputsOf b) (Err e)
+    → OrMemory NoMemory (NetworkOf b) (Err e)
+NetworkOf-outputs b nodes e made h =
+    let P : NetError → Type 0 = λ f. NetOf b (Err f) in
+    ⊎_elim (λ memory. inl memory) (λ fault. inr (subst P (sym fault.1) (nodes_driven b b.covers nodes made, fault.2))) h
+
+-- an order's fault is that of the design
+pub NetOf-order : (b : BlifValue) (net : Network) (e : NetError) → IsNetworkOf b net → OrMemory NoMemory (OrderOf net) (Err e) → OrMemory NoMemory (NetOf b) (Err e)
+NetOf-order b net e is h =
+    let P : NetError → Type 0 = λ f. NetOf b (Err f) in
+    ⊎_elim (λ memory. inl memory) (λ fault. inr (subst P (sym fault.1) (net, is, fault.2))) h

@@ -3,7 +3,7 @@ use Rattle.std.proofs.Common.{◌≡◌, ℕ, zero, suc, ◌+◌, ◌-◌, ◌<�
 use Rattle.std.proofs.lemmas.List.{get_or_default, get_or-take, length-take-le}
 use Rattle.net_defs.specs.Networks.{Network, node_at}
 use Rattle.net_defs.specs.Settling.{Settled}
-use Rattle.netlist.specs.Orders.{ComesAfterFanIns}
+use Rattle.net_defs.specs.Orders.{ComesAfterFanIns}
 
 -- the first m nodes of an order are settled after m rounds
 pub Settled-ordered : (net : Network) (order : List ℕ) → All (λ v. v < length net.nodes) order → ComesAfterFanIns net order

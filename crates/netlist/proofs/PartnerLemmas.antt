@@ -3,11 +3,12 @@ use Rattle.std.proofs.Common.{◌≡◌, ℕ, ◌+◌, List, [], ◌∷◌, ◌+
 use Rattle.std.proofs.lemmas.List.{take_more}
 use Rattle.std.proofs.lemmas.Option.{slice_get_within, get_or_from_slice_get}
 use Rattle.net_defs.specs.Networks.{Network}
-use Rattle.net_defs.specs.Interfaces.{StandAt, HaveTheSameNames, GivesInterfaceOf}
+use Rattle.net_defs.specs.Nets.{output_names}
+use Rattle.net_defs.specs.Interfaces.{StandAt, HaveTheSameNames, InterfaceOf}
+use Rattle.net_defs.specs.declared.interface.Side.{Side}
 use Rattle.net_defs.specs.declared.interface.Side.TheVariants.{Spec, Design}
-use Rattle.net_defs.specs.declared.interface.InterfaceError.{InterfaceError}
-use Rattle.net_defs.specs.declared.interface.InterfaceError.TheVariants.{Input, Output as OutputError, NoMemory as NoMemoryError}
-use Rattle.netlist.specs.Partners.{GivesPlaces, GivesPartners, GivesInputs, GivesOutputs}
+use Rattle.net_defs.specs.declared.interface.InterfaceError.TheVariants.{Input, Output as OutputError}
+use Rattle.netlist.specs.Partners.{GivesPlaces, GivesPartners}
 use Rattle.netlist.specs.declared.ports.Unpaired.{Unpaired}
 use Rattle.netlist.specs.declared.ports.Unpaired.TheVariants.{Missing, NoMemory}
 use Rattle.netlist.proofs.ZipLemmas.{all_zip-push}
@@ -28,17 +29,14 @@ GivesPartners-back spec design (Missing Spec place) all h = let other = h.0 in a
 GivesPartners-back spec design (Missing Design place) all h = (all, h.1)
 GivesPartners-back spec design NoMemory all h = tt
 
--- the fault of the inputs is the answer
-pub GivesInterfaceOf-inputs : (spec design : Network) (e : InterfaceError) → GivesInputs spec design (Err e) → GivesInterfaceOf spec design (Err e)
-GivesInterfaceOf-inputs spec design (Input Spec place) h = h
-GivesInterfaceOf-inputs spec design (Input Design place) h = h
-GivesInterfaceOf-inputs spec design (OutputError side place) h = absurd h
-GivesInterfaceOf-inputs spec design NoMemoryError h = tt
+-- an input without a partner is the interface's first fault
+pub InterfaceOf-input : (spec design : Network) (side : Side) (place : ℕ) → GivesPartners spec.inputs design.inputs (Err (Missing side place))
+    → InterfaceOf spec design (Err (Input side place))
+InterfaceOf-input spec design Spec place h = h
+InterfaceOf-input spec design Design place h = h
 
--- and after them that of the outputs
-pub GivesInterfaceOf-outputs : (spec design : Network) (e : InterfaceError) → HaveTheSameNames spec.inputs design.inputs → GivesOutputs spec design (Err e)
-    → GivesInterfaceOf spec design (Err e)
-GivesInterfaceOf-outputs spec design (Input side place) same h = absurd h
-GivesInterfaceOf-outputs spec design (OutputError Spec place) same h = (same, h)
-GivesInterfaceOf-outputs spec design (OutputError Design place) same h = (same, h.0, h.1)
-GivesInterfaceOf-outputs spec design NoMemoryError same h = tt
+-- and an output, where the inputs have partners
+pub InterfaceOf-output : (spec design : Network) (side : Side) (place : ℕ) → GivesPartners (output_names spec) (output_names design) (Err (Missing side place))
+    → HaveTheSameNames spec.inputs design.inputs → InterfaceOf spec design (Err (OutputError side place))
+InterfaceOf-output spec design Spec place h same = (same, h)
+InterfaceOf-output spec design Design place h same = (same, h.0, h.1)

@@ -5,12 +5,12 @@ use Rattle.std.proofs.lemmas.List.Sums.{sum_by-set}
 use Rattle.std.proofs.lemmas.Bool.{cases_lt}
 use Rattle.net_defs.specs.Networks.{Network, node_at}
 use Rattle.net_defs.specs.Settling.{Settled, IsAcyclic}
-use Rattle.netlist.specs.Orders.{IsOrder}
+use Rattle.net_defs.specs.Orders.{IsOrder}
 use Rattle.netlist.specs.Sortings.{state_at, StaysDone, IsSorting, work}
 use Rattle.netlist.specs.declared.order.State.{State}
 use Rattle.netlist.specs.declared.order.State.TheVariants.{New, Open, Done}
 use Rattle.netlist.proofs.OrderLemmas.{not_settled, Settled-in_order}
-use Rattle.netlist.proofs.StateLemmas.{within_from_open, state_at-set_same, StaysDone-set, not_done_from_new}
+use Rattle.netlist.proofs.StateLemmas.{count_new-done, within_from_open, state_at-set_same, StaysDone-set, not_done_from_new}
 use Rattle.netlist.proofs.SortingSteps.{IsSorting-opened}
 
 -- the last open node needs an open node
@@ -113,13 +113,19 @@ done_settled net states left stack order u h is_done =
 
 -- once every node is done, the order is one of all nodes, and each node is settled
 pub finished : (net : Network) (states : List State) (left stack order : List ℕ)
-    → IsSorting net states left stack order → ((u : ℕ) → u < length net.nodes → state_at states u ≡ Done)
+    → IsSorting net states left stack order → stack ≡ [] → ((u : ℕ) → u < length net.nodes → state_at states u ≡ Done)
     → IsOrder net order × IsAcyclic net
-finished net states left stack order h all_done = (
-  record {
-    within = h.order_within;
-    complete = λ u lt. h.done_ordered u (all_done u lt);
-    after = h.after;
-  },
-  λ u lt. done_settled net states left stack order u h (all_done u lt),
-)
+finished net states left stack order h empty all_done =
+    let none = count_new-done states (λ u d lt. sym (get_or_default states u New d lt) ∙ all_done u (omega (arith, h.all_states))) in
+    let size : length stack ≡ 0 = ap length empty in (
+      record {
+        nodes = record {
+          as_many = omega (arith, h.counted, none, size);
+          within = h.order_within;
+          distinct = λ i j below lt. h.order_distinct i j below (omega (arith, h.counted, none, size));
+          complete = λ u lt. h.done_ordered u (all_done u lt);
+        };
+        after = h.after;
+      },
+      λ u lt. done_settled net states left stack order u h (all_done u lt),
+    )

@@ -4,7 +4,7 @@ use Rattle.std.proofs.lemmas.List.{get_or-set_same, get_or-set_other, get_or_app
 use Rattle.std.proofs.lemmas.List.Elements.{Contains-append_left, Contains-push, All-push}
 use Rattle.std.proofs.lemmas.Bool.{cases_eq, cases_lt}
 use Rattle.net_defs.specs.Networks.{Network, node_at}
-use Rattle.netlist.specs.Orders.{IsKnown}
+use Rattle.net_defs.specs.Orders.{IsKnown}
 use Rattle.netlist.specs.Sortings.{state_at, IsReady, IsSorting}
 use Rattle.netlist.specs.declared.order.State.{State}
 use Rattle.netlist.specs.declared.order.State.TheVariants.{New, Open, Done}
@@ -43,6 +43,8 @@ IsSorting-passed net states left stack order v p h lt at ready = record {
   path = h.path;
   done_ordered = h.done_ordered;
   order_within = h.order_within;
+  order_done = h.order_done;
+  order_distinct = h.order_distinct;
   after = h.after;
   counted = h.counted;
 }
@@ -99,6 +101,8 @@ IsSorting-opened net states left stack order w h lt fresh needed =
           (λ ne. h.done_ordered u (sym (state_at-set_other states w u Open ne) ∙ is_done))
           (cases_eq u w);
       order_within = h.order_within;
+      order_done = λ i d i_lt. stays _ (h.order_done i d i_lt);
+      order_distinct = h.order_distinct;
       after = h.after;
       counted = omega (arith, h.counted, count_new-opened states w in_states fresh, length_push stack w);
     }
@@ -113,6 +117,8 @@ IsSorting-closed net states left stack order v n h size top none =
     let v_lt : v < length net.nodes = omega (arith, h.all_states) in
     let stays = StaysDone-set states v Done (not_done_from_open states v v_open) in
     let size2 : length (take n stack) ≡ n = length-take-le n stack (omega arith) in
+    let apart : (i : ℕ) → i < length order → get_or order i 0 ≡ v → ⊥ =
+    (λ i i_lt e. let is_done : state_at states v ≡ Done = ap (λ m. state_at states m) (sym e) ∙ h.order_done i 0 i_lt in cc) in
     let at_front : (i : ℕ) → i < n → get_or (take n stack) i 0 ≡ get_or stack i 0 = (λ i i_lt. get_or-take n stack i 0 i_lt) in
     record {
       all_states = length-set states v Done ∙ h.all_states;
@@ -141,6 +147,14 @@ IsSorting-closed net states left stack order v n h size top none =
           (λ ne. Contains-append_left order (v ∷ []) u (h.done_ordered u (sym (state_at-set_other states v u Done ne) ∙ is_done)))
           (cases_eq u v);
       order_within = All-push (λ u. u < length net.nodes) order v h.order_within v_lt;
+      order_done = All-push (λ u. state_at (set states v Done) u ≡ Done) order v (λ i d i_lt. stays _ (h.order_done i d i_lt))
+          (state_at-set_same states v Done in_states);
+      order_distinct = λ i j below j_lt e. ⊎_elim
+          (λ inside. h.order_distinct i j below inside
+          (sym (get_or_append_left order (v ∷ []) 0 i (omega arith)) ∙ e ∙ get_or_append_left order (v ∷ []) 0 j inside))
+          (λ past. let at : length order ≡ j = omega (arith, length_push order v) in
+          apart i (omega arith) (sym (get_or_append_left order (v ∷ []) 0 i (omega arith)) ∙ e ∙ get_or_push order v 0 j at))
+          (cases_lt j (length order));
       after = λ j j_lt. ⊎_elim
           (λ inside.
           let Pn : ℕ → Type 0 = λ m. All (IsKnown net (take j (order ++ v ∷ []))) (node_at net m).fan_ins in

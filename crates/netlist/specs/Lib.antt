@@ -6,3 +6,4 @@ pub mod Index
 pub mod Resolving
 pub mod Partners
 pub mod Moves
+pub mod Faults

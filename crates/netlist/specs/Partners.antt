@@ -4,16 +4,16 @@ use Rattle.std.specs.declared.alloc.Global.{Global}
 use Rattle.net_defs.specs.Names.{IsFirstMissing}
 use Rattle.net_defs.specs.Networks.{Output, Network}
 use Rattle.net_defs.specs.Nets.{output_names}
-use Rattle.net_defs.specs.Interfaces.{StandAt}
+use Rattle.net_defs.specs.Interfaces.{StandAt, HaveTheSameNames, InterfaceOf}
 use Rattle.net_defs.specs.declared.interface.Side.{Side}
 use Rattle.net_defs.specs.declared.interface.Side.TheVariants.{Spec, Design}
 use Rattle.net_defs.specs.declared.interface.InterfaceError.{InterfaceError}
-use Rattle.net_defs.specs.declared.interface.InterfaceError.TheVariants.{Input, Output as OutputError, NoMemory as NoMemoryError}
 use Rattle.netlist.specs.declared.ports.Ports.{Ports}
 use Rattle.netlist.specs.declared.ports.Ports.TheVariants.{Inputs, Outputs}
 use Rattle.netlist.specs.declared.ports.Unpaired.{Unpaired}
 use Rattle.netlist.specs.declared.ports.Unpaired.TheVariants.{Missing, NoMemory}
 
+-- the names of the inputs, or of the outputs
 abbrev pub port_names : Ports → List (List ℕ)
 port_names (Inputs names) = names.now
 port_names (Outputs outputs) = map (λ (o : Output). o.name) outputs.now
@@ -31,16 +31,12 @@ GivesPartners spec design (Err (Missing Spec place)) = IsFirstMissing design spe
 GivesPartners spec design (Err (Missing Design place)) = All (Contains design) spec × IsFirstMissing spec design place
 GivesPartners spec design (Err NoMemory) = Unit {0}
 
--- the same for the inputs
-abbrev pub GivesInputs : Network → Network → Result (Vec ℕ Global) InterfaceError → Type 0
-GivesInputs spec design (Ok places) = GivesPartners spec.inputs design.inputs (Ok places)
-GivesInputs spec design (Err (Input side place)) = GivesPartners spec.inputs design.inputs (Err (Missing side place))
-GivesInputs spec design (Err (OutputError side place)) = ⊥
-GivesInputs spec design (Err NoMemoryError) = Unit {0}
+-- the partners of the inputs, or the interface's first fault
+abbrev pub InputsOf : Network → Network → Result (Vec ℕ Global) InterfaceError → Type 0
+InputsOf spec design (Ok places) = GivesPartners spec.inputs design.inputs (Ok places)
+InputsOf spec design (Err fault) = InterfaceOf spec design (Err fault)
 
--- and for the outputs
-abbrev pub GivesOutputs : Network → Network → Result (Vec ℕ Global) InterfaceError → Type 0
-GivesOutputs spec design (Ok places) = GivesPartners (output_names spec) (output_names design) (Ok places)
-GivesOutputs spec design (Err (Input side place)) = ⊥
-GivesOutputs spec design (Err (OutputError side place)) = GivesPartners (output_names spec) (output_names design) (Err (Missing side place))
-GivesOutputs spec design (Err NoMemoryError) = Unit {0}
+-- the partners of the outputs, or the interface's first fault where the inputs have partners
+abbrev pub OutputsOf : Network → Network → Result (Vec ℕ Global) InterfaceError → Type 0
+OutputsOf spec design (Ok places) = GivesPartners (output_names spec) (output_names design) (Ok places)
+OutputsOf spec design (Err fault) = HaveTheSameNames spec.inputs design.inputs → InterfaceOf spec design (Err fault)

@@ -2,7 +2,7 @@
 use Rattle.std.specs.Prelude.{◌≡◌, ℕ, ◌+◌, ◌-◌, ◌*◌, ◌<◌, ◌≤◌, ◌⊎◌, Bool, true, false, List, length, sum, count_by, slice_index, slice_index_or, All, Contains}
 use Rattle.net_defs.specs.Networks.{Node, Network, node_at, signals}
 use Rattle.blif_defs.specs.declared.mark.TheConstants.{MAX_PORTS}
-use Rattle.netlist.specs.Orders.{ComesAfterFanIns}
+use Rattle.net_defs.specs.Orders.{ComesAfterFanIns}
 use Rattle.netlist.specs.declared.order.State.{State}
 use Rattle.netlist.specs.declared.order.State.TheVariants.{New, Open, Done}
 
@@ -42,6 +42,8 @@ pub record IsSorting (net : Network) (states : List State) (left stack order : L
       → Contains (node_at net (slice_index stack i)).fan_ins (length net.inputs + slice_index stack (i + 1))
   pub done_ordered : (v : ℕ) → state_at states v ≡ Done → Contains order v
   pub order_within : All (λ v. v < length net.nodes) order
+  pub order_done : All (λ v. state_at states v ≡ Done) order
+  pub order_distinct : (i j : ℕ) → i < j → j < length order → slice_index order i ≡ slice_index order j → ⊥
   pub after : ComesAfterFanIns net order
   pub counted : count_by is_new states + length stack + length order ≡ length net.nodes
 

@@ -5,20 +5,20 @@ ghost use Rattle.net_defs.specs.Alignments.{IsAligned, HasOutputsOf};
 
 use crate::moves::{Moves, names_at};
 use crate::net::Net;
+use crate::network::Network;
 use crate::pairing::Pairing;
-use crate::parts::Parts;
 use pch_base::NoMemory;
 use std::alloc::Global;
 
-impl Parts {
+impl Network {
     /// The same nodes, with inputs and outputs in the order of their partners.
-    fn aligned(&self, alloc: Global, p: &Pairing) -> Result<Parts, NoMemory>
+    fn aligned(&self, alloc: Global, p: &Pairing) -> Result<Network, NoMemory>
         requires net { IsNet self.now }
         requires pairs { Pairs self.now p.now }
         ensures { IfOk result (IsAligned self.now p.now) }
     {
         let moves = Moves::new(alloc, p.inputs())?;
-        Ok(Parts {
+        Ok(Network {
             inputs: names_at(alloc, self.inputs(), p.inputs())?,
             nodes: moves.nodes(alloc, self.nodes())?,
             outputs: moves.outputs_at(alloc, self.outputs(), p.outputs())?,
@@ -34,8 +34,8 @@ impl Net {
         ensures aligned { IfOk result (IsAligned self.now p.now) }
         ensures outputs { IfOk result (HasOutputsOf self.now p.now) }
     {
-        let parts = self.parts.aligned(alloc, p)?;
-        let order = self.order.as_slice().to_vec(alloc)?;
-        Ok(Net { parts, order })
+        let network = self.network().aligned(alloc, p)?;
+        let order = self.order().to_vec(alloc)?;
+        Ok(Net::new(network, order))
     }
 }

@@ -1,7 +1,7 @@
 ghost use Rattle.std.specs.Prelude.{◌≡◌, ◌↔◌, IsTrue, Decides};
 
 use crate::net::Net;
-use crate::parts::{NetNode, NetOutput};
+use crate::network::{NetNode, NetOutput};
 use blif_read::Row;
 use pch_base::Name;
 
@@ -56,7 +56,7 @@ fn are_equal<T: SameAs>(a: &[T], b: &[T]) -> bool
 pub fn same(a: &Net, b: &Net) -> bool
     ensures { IsTrue result ↔ (a.now ≡ b.now) }
 {
-    are_equal(a.parts.inputs(), b.parts.inputs())
-        && are_equal(a.parts.nodes(), b.parts.nodes())
-        && are_equal(a.parts.outputs(), b.parts.outputs())
+    are_equal(a.network().inputs(), b.network().inputs())
+        && are_equal(a.network().nodes(), b.network().nodes())
+        && are_equal(a.network().outputs(), b.network().outputs())
 }

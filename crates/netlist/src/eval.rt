@@ -3,10 +3,10 @@ ghost use Rattle.std.specs.List.{list_any};
 ghost use Rattle.net_defs.specs.Networks.{signals};
 ghost use Rattle.net_defs.specs.Evaluation.{allows, hits, node_bit, bits_at, output_signals};
 ghost use Rattle.net_defs.specs.Nets.{IsNode, IsNet};
-ghost use Rattle.netlist.specs.Orders.{IsOrder};
+ghost use Rattle.net_defs.specs.Orders.{IsOrder};
 ghost use Rattle.netlist.specs.Places.{SameBits, Completes};
 
-use crate::parts::{NetNode, Parts};
+use crate::network::{NetNode, Network};
 use crate::scratch::Scratch;
 use blif_read::{Mark, Row};
 use pch_base::Bits;
@@ -72,15 +72,15 @@ pub(crate) fn put_inputs(x: Bits, s: &mut Scratch)
 }
 
 /// Gives each node its bit, each one after its fan-ins.
-pub(crate) fn sweep(parts: &Parts, order: &[u32], s: &mut Scratch)
-    requires net { IsNet parts.now }
-    requires order { IsOrder parts.now order.now }
-    requires places { signals parts.now ≤ length s.old }
+pub(crate) fn sweep(network: &Network, order: &[u32], s: &mut Scratch)
+    requires net { IsNet network.now }
+    requires order { IsOrder network.now order.now }
+    requires places { signals network.now ≤ length s.old }
     ensures places { length s.new ≡ length s.old }
-    ensures complete { Completes parts.now s.old s.new }
+    ensures complete { Completes network.now s.old s.new }
 {
-    let inputs = parts.inputs().len();
-    let nodes = parts.nodes();
+    let inputs = network.inputs().len();
+    let nodes = network.nodes();
     for v in order {
         let node = &nodes[*v as usize];
         let bit = node.bit(s);
@@ -89,12 +89,12 @@ pub(crate) fn sweep(parts: &Parts, order: &[u32], s: &mut Scratch)
 }
 
 /// The bits of the outputs.
-pub(crate) fn output_bits(parts: &Parts, s: &Scratch) -> Bits
-    requires net { IsNet parts.now }
-    requires places { signals parts.now ≤ length s.now }
-    ensures { result ≡ bits_at s.now (output_signals parts.now) }
+pub(crate) fn output_bits(network: &Network, s: &Scratch) -> Bits
+    requires net { IsNet network.now }
+    requires places { signals network.now ≤ length s.now }
+    ensures { result ≡ bits_at s.now (output_signals network.now) }
 {
-    let outputs = parts.outputs();
+    let outputs = network.outputs();
     let mut bits = Bits::new(0, outputs.len() as u32);
     for (o, output) in outputs.iter().enumerate() {
         bits = bits.with(o as u32, s.get(output.signal as usize));

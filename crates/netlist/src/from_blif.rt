@@ -1,18 +1,20 @@
-ghost use Rattle.std.specs.Prelude.{◌≡◌, ℕ, ◌+◌, ◌≤◌, List, length, map, slice_index_or, All, IfOk, IfErr};
+ghost use Rattle.std.specs.Prelude.{◌≡◌, ℕ, ◌+◌, ◌≤◌, List, length, map, All, IfOk};
 ghost use Rattle.blif_read.specs.declared.cover.Cover.{Cover};
 ghost use Rattle.blif_defs.specs.Values.{BlifValue, IsBlif};
 ghost use Rattle.blif_defs.specs.declared.mark.TheConstants.{MAX_PORTS, MAX_SIGNALS};
 ghost use Rattle.blif_read.specs.Views.{blif_of, cover_of};
-ghost use Rattle.net_defs.specs.NetOf.{signal_names, GivesNetOf};
+ghost use Rattle.text_defs.specs.Memory.{OrMemory};
+ghost use Rattle.net_defs.specs.NetOf.{signal_names, NetOf};
 ghost use Rattle.netlist.specs.Index.{IsIndexOf};
-ghost use Rattle.netlist.specs.Resolving.{GivesFanIns, GivesNode, GivesNodes, GivesOutputs, GivesParts};
+ghost use Rattle.netlist.specs.Resolving.{FanInsOf, NodeOf, NodesOf, OutputsOf, NetworkOf};
 ghost use Rattle.net_defs.specs.declared.faults.NetError.TheVariants.{NoMemory};
 
+use crate::copies::{copies_of_names, copies_of_rows, copy_of_name};
 use crate::index::NameIndex;
 use crate::net::Net;
+use crate::network::{NetNode, NetOutput, Network};
 use crate::order::order_of;
-use crate::parts::{NetNode, NetOutput, Parts};
-use blif_read::{Blif, Cover, Row};
+use blif_read::{Blif, Cover};
 use net_defs::NetError;
 use pch_base::Name;
 use std::alloc::{AllocError, Global};
@@ -43,52 +45,6 @@ fn index_signals<'a>(alloc: Global, b: &'a Blif) -> Result<NameIndex<'a>, AllocE
     Ok(index)
 }
 
-/// A copy of the name.
-fn copy_of_name(alloc: Global, name: &Name) -> Result<Name, NetError>
-    ensures ok { IfOk result (λ copy. copy ≡ name.now) }
-    ensures err { IfErr result (λ e. e ≡ NoMemory) }
-{
-    match Name::from_bytes(alloc, name.bytes()) {
-        Ok(copy) => Ok(copy),
-        Err(_) => Err(NetError::NoMemory),
-    }
-}
-
-/// A copy of the row.
-fn copy_of_row(alloc: Global, row: &Row) -> Result<Row, NetError>
-    ensures ok { IfOk result (λ copy. copy ≡ row.now) }
-    ensures err { IfErr result (λ e. e ≡ NoMemory) }
-{
-    match Row::from_marks(alloc, row.marks()) {
-        Ok(copy) => Ok(copy),
-        Err(_) => Err(NetError::NoMemory),
-    }
-}
-
-/// Copies of the names.
-fn copies_of_names(alloc: Global, names: &[Name]) -> Result<Vec<Name>, NetError>
-    ensures ok { IfOk result (λ copies. copies.items ≡ names.now) }
-    ensures err { IfErr result (λ e. e ≡ NoMemory) }
-{
-    let mut copies = Vec::with_capacity(alloc, names.len())?;
-    for name in names {
-        copies.push(copy_of_name(alloc, name)?)?;
-    }
-    Ok(copies)
-}
-
-/// Copies of the rows.
-fn copies_of_rows(alloc: Global, rows: &[Row]) -> Result<Vec<Row>, NetError>
-    ensures ok { IfOk result (λ copies. copies.items ≡ rows.now) }
-    ensures err { IfErr result (λ e. e ≡ NoMemory) }
-{
-    let mut copies = Vec::with_capacity(alloc, rows.len())?;
-    for row in rows {
-        copies.push(copy_of_row(alloc, row)?)?;
-    }
-    Ok(copies)
-}
-
 /// The signals with the names of the inputs of cover `node`.
 fn fan_ins_of(
     alloc: Global,
@@ -97,7 +53,7 @@ fn fan_ins_of(
     node: u32,
 ) -> Result<Vec<u32>, NetError>
     requires { length ins.now ≤ MAX_PORTS }
-    ensures { (b : BlifValue) → IsIndexOf index.now (signal_names b) → GivesFanIns b ins.now node result }
+    ensures { (b : BlifValue) → IsIndexOf index.now (signal_names b) → OrMemory NoMemory (FanInsOf b ins.now node) result }
 {
     let mut signals = Vec::with_capacity(alloc, ins.len())?;
     for (pin, name) in ins.iter().enumerate() {
@@ -120,7 +76,7 @@ fn node_of(
     node: u32,
 ) -> Result<NetNode, NetError>
     requires { length cover.now.ins ≤ MAX_PORTS }
-    ensures { (b : BlifValue) → IsIndexOf index.now (signal_names b) → GivesNode b (cover_of cover.now) node result }
+    ensures { (b : BlifValue) → IsIndexOf index.now (signal_names b) → OrMemory NoMemory (NodeOf b (cover_of cover.now) node) result }
 {
     let fan_ins = fan_ins_of(alloc, index, cover.ins.as_slice(), node)?;
     let rows = copies_of_rows(alloc, cover.rows.as_slice())?;
@@ -139,7 +95,7 @@ fn nodes_of(
 ) -> Result<Vec<NetNode>, NetError>
     requires few { length covers.now ≤ MAX_SIGNALS }
     requires short { All (λ (cover : Cover). length cover.ins ≤ MAX_PORTS) covers.now }
-    ensures { (b : BlifValue) → IsIndexOf index.now (signal_names b) → b.covers ≡ map cover_of covers.now → GivesNodes b result }
+    ensures { (b : BlifValue) → IsIndexOf index.now (signal_names b) → b.covers ≡ map cover_of covers.now → OrMemory NoMemory (NodesOf b) result }
 {
     let mut nodes = Vec::with_capacity(alloc, covers.len())?;
     for (v, cover) in covers.iter().enumerate() {
@@ -155,7 +111,7 @@ fn outputs_of(
     names: &[Name],
 ) -> Result<Vec<NetOutput>, NetError>
     requires { length names.now ≤ MAX_PORTS }
-    ensures { (b : BlifValue) → IsIndexOf index.now (signal_names b) → b.outputs ≡ names.now → GivesOutputs b result }
+    ensures { (b : BlifValue) → IsIndexOf index.now (signal_names b) → b.outputs ≡ names.now → OrMemory NoMemory (OutputsOf b) result }
 {
     let mut outputs = Vec::with_capacity(alloc, names.len())?;
     for (o, name) in names.iter().enumerate() {
@@ -170,15 +126,15 @@ fn outputs_of(
     Ok(outputs)
 }
 
-/// The parts of the network of the design, with signals in place of names.
-fn parts_of(alloc: Global, index: &NameIndex<'_>, b: &Blif) -> Result<Parts, NetError>
+/// The network of the design, with signals in place of names.
+fn network_of(alloc: Global, index: &NameIndex<'_>, b: &Blif) -> Result<Network, NetError>
     requires { IsBlif (blif_of b.now) }
-    ensures { IsIndexOf index.now (signal_names (blif_of b.now)) → GivesParts (blif_of b.now) result }
+    ensures { IsIndexOf index.now (signal_names (blif_of b.now)) → OrMemory NoMemory (NetworkOf (blif_of b.now)) result }
 {
     let nodes = nodes_of(alloc, index, b.covers.as_slice())?;
     let outputs = outputs_of(alloc, index, b.outputs.as_slice())?;
     let inputs = copies_of_names(alloc, b.inputs.as_slice())?;
-    Ok(Parts {
+    Ok(Network {
         inputs,
         nodes,
         outputs,
@@ -188,10 +144,10 @@ fn parts_of(alloc: Global, index: &NameIndex<'_>, b: &Blif) -> Result<Parts, Net
 /// The net of a design within the limits, as `read_blif` gives it, or the design's first fault.
 pub fn build(alloc: Global, b: &Blif) -> Result<Net, NetError>
     requires { IsBlif (blif_of b.now) }
-    ensures { GivesNetOf (blif_of b.now) result }
+    ensures { OrMemory NoMemory (NetOf (blif_of b.now)) result }
 {
     let index = index_signals(alloc, b)?;
-    let parts = parts_of(alloc, &index, b)?;
-    let order = order_of(alloc, &parts)?;
-    Ok(Net { parts, order })
+    let network = network_of(alloc, &index, b)?;
+    let order = order_of(alloc, &network)?;
+    Ok(Net::new(network, order))
 }

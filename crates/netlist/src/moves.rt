@@ -1,8 +1,8 @@
 ghost use Rattle.std.specs.Prelude.{◌≡◌, ◌<◌, length, All, IfOk};
 ghost use Rattle.net_defs.specs.Interfaces.{StandAt};
 
-use crate::parts::{NetNode, NetOutput};
-use blif_read::Row;
+use crate::copies::{copies_of_rows, copy_of_name};
+use crate::network::{NetNode, NetOutput};
 use pch_base::{Name, NoMemory};
 use std::alloc::{AllocError, Global};
 use std::marker::Model;
@@ -30,20 +30,9 @@ pub(crate) fn names_at(alloc: Global, names: &[Name], places: &[u32]) -> Result<
     let mut found = Vec::with_capacity(alloc, places.len())?;
     for place in places {
         let name = &names[*place as usize];
-        found.push(Name::from_bytes(alloc, name.bytes())?)?;
+        found.push(copy_of_name(alloc, name)?)?;
     }
     Ok(found)
-}
-
-/// Copies of the rows.
-fn copies_of_rows(alloc: Global, rows: &[Row]) -> Result<Vec<Row>, NoMemory>
-    ensures { IfOk result (λ copies. copies.items ≡ rows.now) }
-{
-    let mut copies = Vec::with_capacity(alloc, rows.len())?;
-    for row in rows {
-        copies.push(Row::from_marks(alloc, row.marks())?)?;
-    }
-    Ok(copies)
 }
 
 impl Moves {
@@ -116,7 +105,7 @@ impl Moves {
         ensures { IfOk result (λ moved. (places : List ℕ) → IsInverse places self.now → IsMovedOutput places output.now moved) }
     {
         Ok(NetOutput {
-            name: Name::from_bytes(alloc, output.name.bytes())?,
+            name: copy_of_name(alloc, &output.name)?,
             signal: self.signal(output.signal),
         })
     }

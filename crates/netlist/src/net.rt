@@ -1,10 +1,11 @@
 ghost use Rattle.std.specs.Prelude.{◌≡◌, ◌<◌, ◌≤◌, length, slice_get, Some};
 ghost use Rattle.net_defs.specs.Networks.{node_at, signals};
 ghost use Rattle.net_defs.specs.Nets.{IsNet, row_count, output_names};
+ghost use Rattle.net_defs.specs.Orders.{IsOrder};
 ghost use Rattle.net_defs.specs.Evaluation.{SpecOut, output_signals};
 
 use crate::eval::{output_bits, put_inputs, sweep};
-use crate::parts::Parts;
+use crate::network::Network;
 use crate::scratch::Scratch;
 use blif_read::Row;
 use pch_base::{Bits, Name};
@@ -16,9 +17,11 @@ use std::marker::Model;
 /// Signals are numbered from 0, the inputs first and then the nodes.
 #[derive(Debug, Drop)]
 pub struct Net {
-    pub(crate) parts: Parts,
-    /// All nodes, each after those among its fan-ins.
-    pub(crate) order: Vec<u32>,
+    network: Network,
+    /// All nodes, each once and after those among its fan-ins.
+    order: Vec<u32>,
+    /// How many rows all nodes have together.
+    rows: u32,
 }
 
 impl Model for Net {
@@ -27,17 +30,41 @@ impl Model for Net {
 
     ghost Value = { Network };
 
-    ghost view = { λ n. n.parts };
+    ghost view = { λ n. n.network };
 
-    ghost invariant = { λ n. IsKept n.parts n.order.items };
+    ghost invariant = { λ n. IsKept n.network n.order.items n.rows };
 }
 
 impl Net {
-    /// What every net keeps.
-    pub fn known(&self)
-        ensures { IsNet self.now }
+    /// The net of this network, whose nodes are evaluated in this order.
+    pub(crate) fn new(network: Network, order: Vec<u32>) -> Net
+        requires net { IsNet network }
+        requires order { IsOrder network order.items }
+        ensures { result ≡ network }
     {
-        let _parts = &self.parts;
+        let rows = network.row_count();
+        Net {
+            network,
+            order,
+            rows,
+        }
+    }
+
+    /// The network itself.
+    pub(crate) fn network(&self) -> &Network
+        ensures network { result.now ≡ self.now }
+        ensures net { IsNet self.now }
+    {
+        &self.network
+    }
+
+    /// All nodes in an order in which they can be evaluated: each once, and after those among its
+    /// fan-ins.
+    pub fn order(&self) -> &[u32]
+        ensures order { IsOrder self.now result.now }
+        ensures net { IsNet self.now }
+    {
+        &self.order
     }
 
     /// The bits of the outputs where the inputs have the bits `x`. Takes no memory.
@@ -48,36 +75,40 @@ impl Net {
         ensures places { length s.new ≡ length s.old }
     {
         put_inputs(x, s);
-        sweep(&self.parts, &self.order, s);
-        output_bits(&self.parts, s)
+        sweep(&self.network, &self.order, s);
+        output_bits(&self.network, s)
     }
 
     /// How many inputs there are.
     pub fn inputs(&self) -> u32
-        ensures { result ≡ length self.now.inputs }
+        ensures count { result ≡ length self.now.inputs }
+        ensures net { IsNet self.now }
     {
-        self.parts.inputs().len() as u32
+        self.network.inputs().len() as u32
     }
 
     /// How many outputs there are.
     pub fn outputs(&self) -> u32
-        ensures { result ≡ length self.now.outputs }
+        ensures count { result ≡ length self.now.outputs }
+        ensures net { IsNet self.now }
     {
-        self.parts.outputs().len() as u32
+        self.network.outputs().len() as u32
     }
 
     /// How many nodes there are.
     pub fn nodes(&self) -> u32
-        ensures { result ≡ length self.now.nodes }
+        ensures count { result ≡ length self.now.nodes }
+        ensures net { IsNet self.now }
     {
-        self.parts.nodes().len() as u32
+        self.network.nodes().len() as u32
     }
 
     /// How many rows all nodes have together.
     pub fn rows(&self) -> u32
-        ensures { result ≡ row_count self.now }
+        ensures count { result ≡ row_count self.now }
+        ensures net { IsNet self.now }
     {
-        self.parts.row_count()
+        self.rows
     }
 
     /// The name of input `i`.
@@ -85,7 +116,7 @@ impl Net {
         requires { i < length self.now.inputs }
         ensures { slice_get self.now.inputs i ≡ Some result.now }
     {
-        let inputs = self.parts.inputs();
+        let inputs = self.network.inputs();
         &inputs[i as usize]
     }
 
@@ -94,7 +125,7 @@ impl Net {
         requires { i < length self.now.outputs }
         ensures { slice_get (output_names self.now) i ≡ Some result.now }
     {
-        let outputs = self.parts.outputs();
+        let outputs = self.network.outputs();
         let output = &outputs[i as usize];
         &output.name
     }
@@ -104,7 +135,7 @@ impl Net {
         requires { o < length self.now.outputs }
         ensures { slice_get (output_signals self.now) o ≡ Some result }
     {
-        let outputs = self.parts.outputs();
+        let outputs = self.network.outputs();
         let output = &outputs[o as usize];
         output.signal
     }
@@ -114,7 +145,7 @@ impl Net {
         requires { v < length self.now.nodes }
         ensures { result.now ≡ (node_at self.now v).fan_ins }
     {
-        self.parts.node(v).fan_ins()
+        self.network.node(v).fan_ins()
     }
 
     /// The bit of node `v` where some row hits its fan-ins.
@@ -122,7 +153,7 @@ impl Net {
         requires { v < length self.now.nodes }
         ensures { result ≡ (node_at self.now v).on }
     {
-        self.parts.node(v).on()
+        self.network.node(v).on()
     }
 
     /// The rows of node `v`.
@@ -130,6 +161,6 @@ impl Net {
         requires { v < length self.now.nodes }
         ensures { result.now ≡ (node_at self.now v).rows }
     {
-        self.parts.node(v).rows()
+        self.network.node(v).rows()
     }
 }

@@ -1,9 +1,11 @@
 ghost use Rattle.std.specs.Prelude.{◌≤◌, length};
 ghost use Rattle.blif_defs.specs.declared.mark.TheConstants.{MAX_SIGNALS};
 ghost use Rattle.netlist.specs.Sortings.{HasFanInsWithin, HasShortNodes};
-ghost use Rattle.netlist.specs.Orders.{GivesOrderOf};
+ghost use Rattle.text_defs.specs.Memory.{OrMemory};
+ghost use Rattle.net_defs.specs.declared.faults.NetError.TheVariants.{NoMemory};
+ghost use Rattle.netlist.specs.Orders.{OrderOf};
 
-use crate::parts::Parts;
+use crate::network::Network;
 use net_defs::NetError;
 use std::alloc::{AllocError, Global};
 
@@ -31,15 +33,15 @@ pub(crate) struct Sorting {
 
 /// An order of the nodes in which each comes after those among its fan-ins, or `Cycle` with the first
 /// node that isn't settled.
-pub(crate) fn order_of(alloc: Global, parts: &Parts) -> Result<Vec<u32>, NetError>
-    requires fan_ins { HasFanInsWithin parts.now }
-    requires short { HasShortNodes parts.now }
-    requires within { length parts.now.nodes ≤ MAX_SIGNALS }
-    ensures { GivesOrderOf parts.now result }
+pub(crate) fn order_of(alloc: Global, network: &Network) -> Result<Vec<u32>, NetError>
+    requires fan_ins { HasFanInsWithin network.now }
+    requires short { HasShortNodes network.now }
+    requires within { length network.now.nodes ≤ MAX_SIGNALS }
+    ensures { OrMemory NoMemory (OrderOf network.now) result }
 {
-    let mut sorting = Sorting::new(alloc, parts)?;
-    for v in 0..parts.nodes().len() as u32 {
-        if !sorting.settle(parts, v)? {
+    let mut sorting = Sorting::new(alloc, network)?;
+    for v in 0..network.nodes().len() as u32 {
+        if !sorting.settle(network, v)? {
             return Err(NetError::Cycle { node: v });
         }
     }
@@ -55,15 +57,15 @@ impl Sorting {
     ghost use Rattle.netlist.specs.declared.order.State.TheVariants.{New, Open, Done};
 
     /// No node was met.
-    fn new(alloc: Global, parts: &Parts) -> Result<Sorting, AllocError>
-        requires short { HasShortNodes parts.now }
-        ensures sound { IfOk result (IsSound parts.now) }
+    fn new(alloc: Global, network: &Network) -> Result<Sorting, AllocError>
+        requires short { HasShortNodes network.now }
+        ensures sound { IfOk result (IsSound network.now) }
         ensures empty { IfOk result (λ s. s.stack.items ≡ []) }
     {
-        let count = parts.nodes().len();
+        let count = network.nodes().len();
         Ok(Sorting {
             states: vec![in alloc; State::New; count]?,
-            left: parts.pin_counts(alloc)?,
+            left: network.pin_counts(alloc)?,
             stack: Vec::with_capacity(alloc, count)?,
             order: Vec::with_capacity(alloc, count)?,
         })
@@ -83,23 +85,23 @@ impl Sorting {
     }
 
     /// Puts the node and all that it needs into the order. Answers false where it isn't settled.
-    fn settle(&mut self, parts: &Parts, root: u32) -> Result<bool, AllocError>
-        requires sound { IsSound parts.now self.old }
-        requires fan_ins { HasFanInsWithin parts.now }
+    fn settle(&mut self, network: &Network, root: u32) -> Result<bool, AllocError>
+        requires sound { IsSound network.now self.old }
+        requires fan_ins { HasFanInsWithin network.now }
         requires empty { self.old.stack.items ≡ [] }
-        requires within { root < length parts.now.nodes }
-        ensures sound { IfOk result (λ b. b ≡ true → IsSound parts.now self.new) }
+        requires within { root < length network.now.nodes }
+        ensures sound { IfOk result (λ b. b ≡ true → IsSound network.now self.new) }
         ensures empty { IfOk result (λ b. b ≡ true → self.new.stack.items ≡ []) }
         ensures done { IfOk result (λ b. b ≡ true → state_at self.new.states.items root ≡ Done) }
         ensures stays { IfOk result (λ b. b ≡ true → StaysDone self.old.states.items self.new.states.items) }
-        ensures unsettled { IfOk result (λ b. b ≡ false → (k : ℕ) → Settled parts.now k root → ⊥) }
+        ensures unsettled { IfOk result (λ b. b ≡ false → (k : ℕ) → Settled network.now k root → ⊥) }
     {
         if !self.is_new(root) {
             return Ok(true);
         }
         self.open(root)?;
         while let Some(&v) = self.stack.last() {
-            if !self.advance(parts, v)? {
+            if !self.advance(network, v)? {
                 return Ok(false);
             }
         }
@@ -145,26 +147,26 @@ impl Sorting {
 
     /// Looks at one more pin of the last open node, or closes it. Answers false where its pin leads
     /// back to the stack.
-    fn advance(&mut self, parts: &Parts, v: u32) -> Result<bool, AllocError>
-        requires sound { IsSound parts.now self.old }
-        requires fan_ins { HasFanInsWithin parts.now }
+    fn advance(&mut self, network: &Network, v: u32) -> Result<bool, AllocError>
+        requires sound { IsSound network.now self.old }
+        requires fan_ins { HasFanInsWithin network.now }
         requires stacked { 0 < length self.old.stack.items }
         requires last { slice_index self.old.stack.items (length self.old.stack.items - 1) ≡ v }
-        ensures sound { OnOk result (IsSound parts.now self.new) }
+        ensures sound { OnOk result (IsSound network.now self.new) }
         ensures stays { OnOk result (StaysDone self.old.states.items self.new.states.items) }
         ensures bottom { OnOk result (0 < length self.new.stack.items → slice_index self.new.stack.items 0 ≡ slice_index self.old.stack.items 0) }
         ensures met { OnOk result ((u : ℕ) → state_at self.new.states.items u ≡ New → state_at self.old.states.items u ≡ New) }
         ensures less { IfOk result (λ b. b ≡ true → work_of self.new < work_of self.old) }
         ensures stack { IfOk result (λ b. b ≡ false → self.new.stack.items ≡ self.old.stack.items) }
-        ensures cycle { IfOk result (λ b. b ≡ false → (k u : ℕ) → state_at self.new.states.items u ≡ Open → Settled parts.now k u → ⊥) }
+        ensures cycle { IfOk result (λ b. b ≡ false → (k u : ℕ) → state_at self.new.states.items u ≡ Open → Settled network.now k u → ⊥) }
     {
         let pins = self.left[v as usize];
         if pins == 0 {
             self.close(v)?;
             return Ok(true);
         }
-        let signal = parts.fan_in(v, pins - 1) as usize;
-        let inputs = parts.inputs().len();
+        let signal = network.fan_in(v, pins - 1) as usize;
+        let inputs = network.inputs().len();
         if signal < inputs {
             self.left[v as usize] = pins - 1;
             return Ok(true);

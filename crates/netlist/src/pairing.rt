@@ -1,10 +1,12 @@
 ghost use Rattle.std.specs.Prelude.{◌≤◌, length, IfOk};
+ghost use Rattle.text_defs.specs.Memory.{OrMemory};
 ghost use Rattle.net_defs.specs.Nets.{IsNet};
-ghost use Rattle.net_defs.specs.Interfaces.{GivesInterfaceOf, Pairs};
-ghost use Rattle.netlist.specs.Partners.{GivesInputs, GivesOutputs};
+ghost use Rattle.net_defs.specs.declared.interface.InterfaceError.TheVariants.{NoMemory};
+ghost use Rattle.net_defs.specs.Interfaces.{InterfaceOf, Pairs};
+ghost use Rattle.netlist.specs.Partners.{InputsOf, OutputsOf};
 
 use crate::net::Net;
-use crate::parts::Parts;
+use crate::network::Network;
 use crate::ports::{Ports, Unpaired, partners};
 use net_defs::InterfaceError;
 use std::alloc::Global;
@@ -61,10 +63,10 @@ impl Pairing {
 }
 
 /// The partners of the specification's inputs.
-fn pair_inputs(alloc: Global, spec: &Parts, design: &Parts) -> Result<Vec<u32>, InterfaceError>
+fn pair_inputs(alloc: Global, spec: &Network, design: &Network) -> Result<Vec<u32>, InterfaceError>
     requires spec { IsNet spec.now }
     requires design { IsNet design.now }
-    ensures { GivesInputs spec.now design.now result }
+    ensures { OrMemory NoMemory (InputsOf spec.now design.now) result }
 {
     let wanted = Ports::Inputs(spec.inputs());
     let there = Ports::Inputs(design.inputs());
@@ -76,10 +78,10 @@ fn pair_inputs(alloc: Global, spec: &Parts, design: &Parts) -> Result<Vec<u32>, 
 }
 
 /// The partners of the specification's outputs.
-fn pair_outputs(alloc: Global, spec: &Parts, design: &Parts) -> Result<Vec<u32>, InterfaceError>
+fn pair_outputs(alloc: Global, spec: &Network, design: &Network) -> Result<Vec<u32>, InterfaceError>
     requires spec { IsNet spec.now }
     requires design { IsNet design.now }
-    ensures { GivesOutputs spec.now design.now result }
+    ensures { OrMemory NoMemory (OutputsOf spec.now design.now) result }
 {
     let wanted = Ports::Outputs(spec.outputs());
     let there = Ports::Outputs(design.outputs());
@@ -96,10 +98,12 @@ fn pair_outputs(alloc: Global, spec: &Parts, design: &Parts) -> Result<Vec<u32>,
 /// input of the design, then an output of the specification, then an output of the design, and among
 /// these the one with the least place.
 pub fn same_interface(alloc: Global, spec: &Net, design: &Net) -> Result<Pairing, InterfaceError>
-    ensures answer { GivesInterfaceOf spec.now design.now result }
+    ensures answer { OrMemory NoMemory (InterfaceOf spec.now design.now) result }
     ensures pairs { IfOk result (Pairs design.now) }
 {
-    let inputs = pair_inputs(alloc, &spec.parts, &design.parts)?;
-    let outputs = pair_outputs(alloc, &spec.parts, &design.parts)?;
+    let wanted = spec.network();
+    let there = design.network();
+    let inputs = pair_inputs(alloc, wanted, there)?;
+    let outputs = pair_outputs(alloc, wanted, there)?;
     Ok(Pairing { inputs, outputs })
 }

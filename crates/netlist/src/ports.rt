@@ -5,7 +5,7 @@ ghost use Rattle.netlist.specs.Partners.{port_names, GivesPlaces, GivesPartners}
 ghost use Rattle.netlist.specs.declared.ports.Unpaired.TheVariants.{NoMemory};
 
 use crate::index::NameIndex;
-use crate::parts::NetOutput;
+use crate::network::NetOutput;
 use net_defs::Side;
 use pch_base::Name;
 use std::alloc::{AllocError, AllocFailed, Global};

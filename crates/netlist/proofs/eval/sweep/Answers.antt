@@ -8,11 +8,11 @@ use Rattle.netlist.proofs.eval.sweep.Goals as goal
 
 pub loop-v-preserved : goal.loop-v-preserved
 loop-v-preserved c =
-    let net = c.args.parts.now in
+    let net = c.args.network.now in
     let v : ℕ = slice_index c.args.order.now c.loop-v.v-index in
     let lt : c.loop-v.v-index < length c.args.order.now = omega arith in
     let places : signals net ≤ length c.loop-v.s = omega (arith, c.loop-v.invariant.places, c.requires.places) in
-    let v_lt : v < length net.nodes = c.requires.order.within c.loop-v.v-index 0 lt in
+    let v_lt : v < length net.nodes = c.requires.order.nodes.within c.loop-v.v-index 0 lt in
     let bit : ℕ = bit_of c.bit-bit.result in
     let n_is : length net.inputs ≡ length c.inputs-inputs.result.now = ap length (sym c.inputs-inputs.ensures) in
     let node_is : c.index-nodes-v.result ≡ node_at net v =
@@ -33,4 +33,4 @@ loop-v-preserved c =
 
 pub returns-clause-complete : goal.returns-clause-complete
 returns-clause-complete c = λ x a settles same.
-    Swept-all c.args.parts.now c.args.order.now c.loop-v.s a c.loop-v.v-index c.requires.order (c.loop-v.invariant.swept x a settles same) (omega arith)
+    Swept-all c.args.network.now c.args.order.now c.loop-v.s a c.loop-v.v-index c.requires.order (c.loop-v.invariant.swept x a settles same) (omega arith)

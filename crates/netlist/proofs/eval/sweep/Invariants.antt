@@ -7,5 +7,5 @@ use Rattle.netlist.proofs.eval.sweep.Given as goal
 abbrev pub invariant-loop-v : goal.invariant-loop-v
 invariant-loop-v l = record {
   places : length l.s ≡ length l.fn.s;
-  swept : (x a : List ℕ) → Settles l.parts x a → SameBits (length l.parts.inputs) l.fn.s a → Swept l.parts (take l.v-index l.order) l.s a;
+  swept : (x a : List ℕ) → Settles l.network x a → SameBits (length l.network.inputs) l.fn.s a → Swept l.network (take l.v-index l.order) l.s a;
 }

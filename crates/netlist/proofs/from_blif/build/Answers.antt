@@ -4,18 +4,16 @@ use Rattle.netlist.proofs.from_blif.build.Goals as goal
 
 pub order_of-requires-clause-fan_ins : goal.order_of-requires-clause-fan_ins
 order_of-requires-clause-fan_ins c =
-    HasFanInsWithin-built (blif_of c.args.b.now) c.in_ok-parts.parts (c.in_ok-parts.ensures c.in_ok-index.ensures) c.requires
+    HasFanInsWithin-built (blif_of c.args.b.now) c.in_ok-network.network (c.in_ok-network.ensures c.in_ok-index.ensures) c.requires
 
 pub order_of-requires-clause-short : goal.order_of-requires-clause-short
 order_of-requires-clause-short c =
-    HasShortNodes-built (blif_of c.args.b.now) c.in_ok-parts.parts (c.in_ok-parts.ensures c.in_ok-index.ensures) c.requires
+    HasShortNodes-built (blif_of c.args.b.now) c.in_ok-network.network (c.in_ok-network.ensures c.in_ok-index.ensures) c.requires
 
 pub order_of-requires-clause-within : goal.order_of-requires-clause-within
 order_of-requires-clause-within c =
-    few_nodes-built (blif_of c.args.b.now) c.in_ok-parts.parts (c.in_ok-parts.ensures c.in_ok-index.ensures) c.requires
+    few_nodes-built (blif_of c.args.b.now) c.in_ok-network.network (c.in_ok-network.ensures c.in_ok-index.ensures) c.requires
 
-pub invariant_of-result : goal.invariant_of-result
-invariant_of-result c = record {
-  is_net = IsNet-built (blif_of c.args.b.now) c.in_ok-parts.parts (c.in_ok-parts.ensures c.in_ok-index.ensures) c.requires c.in_ok-order.ensures.1;
-  is_order = c.in_ok-order.ensures.0;
-}
+pub new-requires-clause-net : goal.new-requires-clause-net
+new-requires-clause-net c =
+    IsNet-built (blif_of c.args.b.now) c.in_ok-network.network (c.in_ok-network.ensures c.in_ok-index.ensures) c.requires c.in_ok-order.ensures.1

@@ -4,7 +4,7 @@ use Rattle.std.proofs.lemmas.Result.{err_from_is_err_and}
 use Rattle.blif_read.specs.Views.{cover_of}
 use Rattle.blif_defs.specs.Values.{CoverValue}
 use Rattle.net_defs.specs.NetOf.{no_cover, IsNodeOf}
-use Rattle.netlist.proofs.BuildLemmas.{GivesNodes-err}
+use Rattle.netlist.proofs.BuildLemmas.{NodesOf-err}
 use Rattle.netlist.proofs.ZipLemmas.{all_zip-more}
 use Rattle.netlist.proofs.from_blif.nodes_of.Goals as goal
 
@@ -18,7 +18,7 @@ returns-in_err-node_of c = λ b h same.
     ap cover_of c.index-covers-v.is ∙ sym (get_or-map cover_of covers v item no_cover lt) in
     let p = err_from_is_err_and c.from_residual-in_err-node_of.result c.from_residual-in_err-node_of.ensures.1 in
     rw (p.1, p.2)
-    (GivesNodes-err b (map cover_of covers) v (cover_of item) c.loop-v.nodes.items c.in_err-node_of.field-0.0 same
+    (NodesOf-err b (map cover_of covers) v (cover_of item) c.loop-v.nodes.items c.in_err-node_of.field-0.0 same
     (omega (arith, length-map covers cover_of)) (c.loop-v.invariant b h) at (c.in_err-node_of.ensures b h))
 
 pub loop-v-preserved : goal.loop-v-preserved

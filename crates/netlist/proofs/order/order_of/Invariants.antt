@@ -6,7 +6,7 @@ use Rattle.netlist.proofs.order.order_of.Given as goal
 
 abbrev pub invariant-loop-v : goal.invariant-loop-v
 invariant-loop-v l = record {
-  sound : IsSound l.parts l.sorting;
+  sound : IsSound l.network l.sorting;
   empty : l.sorting.stack.items ≡ [];
   done : (u : ℕ) → u < l.v → state_at l.sorting.states.items u ≡ Done;
 }

@@ -12,16 +12,16 @@ returns-then-pins-eq0-clause-sound c =
     let s = c.args.self.now in
     let e = c.in_ok-close.ensures in
     let h = c.requires.sound in
-    let lt = within_left c.args.parts.now s.states.items s.left.items s.stack.items s.order.items c.args.v h c.requires.stacked c.requires.last in
+    let lt = within_left c.args.network.now s.states.items s.left.items s.stack.items s.order.items c.args.v h c.requires.stacked c.requires.last in
     let none : get_or s.left.items c.args.v 0 ≡ 0 = sym (get_or_read s.left.items c.args.v c.index-pins.result.now lt c.index-pins.ensures 0) ∙ c.if-pins-eq0.true in
     let size : length s.stack.items ≡ length s.stack.items - 1 + 1 = omega (arith, c.requires.stacked) in
     rw (e.states, e.left, e.stack, e.order)
-    (IsSorting-closed c.args.parts.now s.states.items s.left.items s.stack.items s.order.items c.args.v (length s.stack.items - 1) h size c.requires.last none)
+    (IsSorting-closed c.args.network.now s.states.items s.left.items s.stack.items s.order.items c.args.v (length s.stack.items - 1) h size c.requires.last none)
 
 pub returns-in_ok-open-in-New-clause-sound : goal.returns-in_ok-open-in-New-clause-sound
 returns-in_ok-open-in-New-clause-sound c =
     let s = c.args.self.now in
-    let net = c.args.parts.now in
+    let net = c.args.network.now in
     let v = c.args.v in
     let n_is : length c.inputs-inputs.result.now ≡ length net.inputs = ap length c.inputs-inputs.ensures in
     let p : ℕ = c.index-pins.result.now - 1 in
@@ -41,7 +41,7 @@ returns-in_ok-open-in-New-clause-sound c =
 pub returns-in-Open-clause-cycle : goal.returns-in-Open-clause-cycle
 returns-in-Open-clause-cycle c = λ _ k u u_open settled.
     let s = c.args.self.now in
-    let net = c.args.parts.now in
+    let net = c.args.network.now in
     let v = c.args.v in
     let n_is : length c.inputs-inputs.result.now ≡ length net.inputs = ap length c.inputs-inputs.ensures in
     let h = c.requires.sound in
@@ -59,11 +59,11 @@ returns-in-Open-clause-cycle c = λ _ k u u_open settled.
 pub returns-in-Done-clause-less : goal.returns-in-Done-clause-less
 returns-in-Done-clause-less c = λ _.
     let s = c.args.self.now in
-    let lt = within_left c.args.parts.now s.states.items s.left.items s.stack.items s.order.items c.args.v c.requires.sound c.requires.stacked c.requires.last in
+    let lt = within_left c.args.network.now s.states.items s.left.items s.stack.items s.order.items c.args.v c.requires.sound c.requires.stacked c.requires.last in
     work_passed s.states.items s.left.items s.stack.items c.args.v c.index-pins.result.now lt
     (sym (get_or_read s.left.items c.args.v c.index-pins.result.now lt c.index-pins.ensures 0)) (omega arith)
 
 pub index_mut-requires : goal.index_mut-requires
 index_mut-requires c =
     let s = c.args.self.now in
-    omega (arith, within_left c.args.parts.now s.states.items s.left.items s.stack.items s.order.items c.args.v c.requires.sound c.requires.stacked c.requires.last)
+    omega (arith, within_left c.args.network.now s.states.items s.left.items s.stack.items s.order.items c.args.v c.requires.sound c.requires.stacked c.requires.last)

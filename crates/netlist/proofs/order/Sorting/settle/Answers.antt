@@ -9,7 +9,7 @@ loop-v-init c =
     let s = c.args.self.now in
     let e = c.in_ok-open.ensures in
     let fresh = c.is_new.ensures.new (search rules) in
-    let b = opened_first c.args.parts.now s.states.items s.left.items s.stack.items s.order.items c.args.root c.requires.sound c.requires.empty c.requires.within fresh in
+    let b = opened_first c.args.network.now s.states.items s.left.items s.stack.items s.order.items c.args.root c.requires.sound c.requires.empty c.requires.within fresh in
     rw (e.states, e.left, e.stack, e.order) record { sound = b.sound; stays = b.stays; bottom = b.bottom; met = b.met }
 
 pub returns-then-not-branch-clause-unsettled : goal.returns-then-not-branch-clause-unsettled

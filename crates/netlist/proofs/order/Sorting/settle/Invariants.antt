@@ -6,7 +6,7 @@ use Rattle.netlist.proofs.order.Sorting.settle.Given as goal
 
 abbrev pub invariant-loop-v : goal.invariant-loop-v
 invariant-loop-v l = record {
-  sound : IsSound l.parts l.self;
+  sound : IsSound l.network l.self;
   stays : StaysDone l.fn.self.states.items l.self.states.items;
   bottom : 0 < length l.self.stack.items → slice_index l.self.stack.items 0 ≡ l.root;
   met : state_at l.self.states.items l.root ≡ New → ⊥;

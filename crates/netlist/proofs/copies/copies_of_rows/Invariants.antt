@@ -1,5 +1,5 @@
 use Rattle.std.proofs.Common.{◌≡◌, take}
-use Rattle.netlist.proofs.from_blif.copies_of_rows.Given as goal
+use Rattle.netlist.proofs.copies.copies_of_rows.Given as goal
 
 abbrev pub invariant-loop-row : goal.invariant-loop-row
 invariant-loop-row l = l.copies.items ≡ take l.row-index l.rows

@@ -7,8 +7,8 @@ use Rattle.blif_read.specs.Views.{cover_of, blif_of}
 use Rattle.blif_defs.specs.Values.{CoverValue, IsCover}
 use Rattle.blif_defs.specs.declared.mark.TheConstants.{MAX_PORTS}
 use Rattle.blif_read.specs.declared.cover.Cover.{Cover}
-use Rattle.netlist.proofs.NetworkLemmas.{GivesParts-nodes, GivesParts-outputs}
-use Rattle.netlist.proofs.from_blif.parts_of.Goals as goal
+use Rattle.netlist.proofs.NetworkLemmas.{NetworkOf-nodes, NetworkOf-outputs}
+use Rattle.netlist.proofs.from_blif.network_of.Goals as goal
 
 pub nodes_of-requires-clause-short : goal.nodes_of-requires-clause-short
 nodes_of-requires-clause-short c = λ k d lt.
@@ -23,14 +23,14 @@ pub returns-in_err-nodes : goal.returns-in_err-nodes
 returns-in_err-nodes c = λ h.
     let b = blif_of c.args.b.now in
     let p = err_from_is_err_and c.from_residual.result c.from_residual.ensures.1 in
-    rw (p.1, p.2) (GivesParts-nodes b c.in_err-nodes.field-0.0 (c.in_err-nodes.ensures b h (ap (map cover_of) (sym c.as_slice.ensures))))
+    rw (p.1, p.2) (NetworkOf-nodes b c.in_err-nodes.field-0.0 (c.in_err-nodes.ensures b h (ap (map cover_of) (sym c.as_slice.ensures))))
 
 pub returns-in_err-outputs : goal.returns-in_err-outputs
 returns-in_err-outputs c = λ h.
     let b = blif_of c.args.b.now in
     let p = err_from_is_err_and c.from_residual-in_err-outputs.result c.from_residual-in_err-outputs.ensures.1 in
     rw (p.1, p.2)
-    (GivesParts-outputs b c.in_ok-nodes.nodes.items c.in_err-outputs.field-0.0
+    (NetworkOf-outputs b c.in_ok-nodes.nodes.items c.in_err-outputs.field-0.0
     (c.in_ok-nodes.ensures b h (ap (map cover_of) (sym c.as_slice.ensures)))
     (c.in_err-outputs.ensures b h (sym c.as_slice-2.ensures)))
 
@@ -38,7 +38,7 @@ pub returns : goal.returns
 returns c = λ h.
     let b = blif_of c.args.b.now in
     record {
-      inputs = c.in_ok-inputs.ensures.ok ∙ c.as_slice-3.ensures;
+      inputs = c.in_ok-inputs.ensures ∙ c.as_slice-3.ensures;
       nodes = c.in_ok-nodes.ensures b h (ap (map cover_of) (sym c.as_slice.ensures));
       outputs = c.in_ok-outputs.ensures b h (sym c.as_slice-2.ensures);
     }

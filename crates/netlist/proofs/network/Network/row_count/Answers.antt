@@ -1,6 +1,6 @@
 use Rattle.std.proofs.Common.{length, arith, ap}
 use Rattle.netlist.proofs.RowLemmas.{rows_fit}
-use Rattle.netlist.proofs.parts.Parts.row_count.Goals as goal
+use Rattle.netlist.proofs.network.Network.row_count.Goals as goal
 
 pub overflow_cast-count : goal.overflow_cast-count
 overflow_cast-count c =

@@ -62,15 +62,15 @@ impl Model for NetOutput {
     ghost view = { λ o. record { name = o.name; signal = o.signal } };
 }
 
-/// The parts of a network, as contracts see it.
+/// The network of a network, as contracts see it.
 #[derive(Debug, Drop)]
-pub(crate) struct Parts {
+pub(crate) struct Network {
     pub(crate) inputs: Vec<Name>,
     pub(crate) nodes: Vec<NetNode>,
     pub(crate) outputs: Vec<NetOutput>,
 }
 
-impl Model for Parts {
+impl Model for Network {
     ghost use Rattle.net_defs.specs.Networks.{Network};
 
     ghost Value = { Network };
@@ -78,7 +78,7 @@ impl Model for Parts {
     ghost view = { λ p. record { inputs = p.inputs.items; nodes = p.nodes.items; outputs = p.outputs.items } };
 }
 
-impl Parts {
+impl Network {
     /// The names of the inputs.
     pub(crate) fn inputs(&self) -> &[Name]
         ensures { result.now ≡ self.now.inputs }

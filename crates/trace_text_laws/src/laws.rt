@@ -1,8 +1,10 @@
-ghost use Rattle.std.specs.Prelude.{◌≡◌, ℕ, ◌⊎◌, ◌↔◌, List, Ok, Err};
+ghost use Rattle.std.specs.Prelude.{◌≡◌, ◌≢◌, ℕ, ◌⊎◌, ◌↔◌, List, Ok, Err};
+ghost use Rattle.clause_defs.specs.Clauses.{Has};
 ghost use Rattle.clause_defs.specs.Compaction.{AllStated};
 ghost use Rattle.clause_defs.specs.Traces.{Entry};
 ghost use Rattle.sat_text_defs.specs.declared.errors.TraceError.{TraceError};
-ghost use Rattle.sat_text_defs.specs.TraceText.{TraceText, TraceTextFault};
+ghost use Rattle.sat_text_defs.specs.TraceText.{TraceText, TraceTextFault, tokens_of};
+ghost use Rattle.sat_text_defs.specs.Words.{words_of, sign_word};
 ghost use Rattle.sat_text_defs.specs.TraceReading.{trace_in};
 
 /// The trace that is computed of a text is the one whose text it is.
@@ -29,11 +31,15 @@ pub fn text_has_one_trace_or_fault()
         → TraceText text v t → TraceTextFault text v f → ⊥ }
 {}
 
-/// A text of version 1 is the text of the same trace in every version, and a text of a trace without the
-/// sign is one of version 1.
+/// A text of version 1 is the text of the same trace in every version, a text of a trace without the sign
+/// is one of version 1, and a text in which the sign doesn't stand has one trace or one fault for all
+/// versions.
 pub fn versions_agree_without_the_sign()
     ensures first { (text : List ℕ) (v : ℕ) (t : List Entry)
         → TraceText text 1 t → TraceText text v t × AllStated t }
     ensures stated { (text : List ℕ) (v : ℕ) (t : List Entry)
         → TraceText text v t → AllStated t → TraceText text 1 t }
+    ensures unsigned { (text : List ℕ) (v u : ℕ)
+        → ((w : List ℕ) → Has (words_of (tokens_of text)) w → w ≢ sign_word)
+        → trace_in v text ≡ trace_in u text }
 {}

@@ -1,5 +1,5 @@
 -- What a loop over a clause has seen of it.
-use Rattle.std.proofs.Common.{◌≡◌, ◌≢◌, ℕ, zero, suc, ◌+◌, ◌<◌, ◌↔◌, ◌⊎◌, inl, inr, Bool, true, false, not, List, [], ◌∷◌, length, get_or, take, refl, sym, ◌∙◌, ap, arith, add-one}
+use Rattle.std.proofs.Common.{◌≡◌, ◌≢◌, ℕ, zero, suc, ◌+◌, ◌<◌, ◌↔◌, ◌⊎◌, inl, inr, Bool, true, false, not, List, [], ◌∷◌, ◌++◌, length, get_or, take, refl, sym, ◌∙◌, ap, subst, arith, add-one}
 use Rattle.clause_defs.specs.Literals.{Literal, negation, code}
 use Rattle.clause_defs.specs.Clauses.{Lits, Has, IsOrdered}
 use Rattle.clause_laws.proofs.LiteralLemmas.{literal_cases, negation-negation}
@@ -70,3 +70,56 @@ not_own_negation l e = at_sign l.positive (ap (λ (m : Literal). m.positive) e)
 pub none_from : (c : Lits) → ((l : Literal) → Has c l → ⊥) → c ≡ []
 none_from [] h = refl
 none_from (l ∷ ls) h = absurd (h l (inl refl))
+
+-- a member of a list with one more is an old one or the new one
+pub Has-snoc : {X : Type 0} (xs : List X) (y x : X) → Has (xs ++ y ∷ []) x ↔ (Has xs x ⊎ (y ≡ x))
+Has-snoc [] y x = (λ h. elim h [ inl e ↦ inr e | inr n ↦ absurd n ], λ h. elim h [ inl n ↦ absurd n | inr e ↦ inl e ])
+Has-snoc (z ∷ zs) y x =
+    let rest = Has-snoc zs y x in (
+      λ h. elim h [ inl e ↦ inl (inl e) | inr k ↦ elim (rest.0 k) [ inl m ↦ inl (inr m) | inr m ↦ inr m ] ],
+      λ h. elim h [ inl k ↦ elim k [ inl e ↦ inl e | inr m ↦ inr (rest.1 (inl m)) ] | inr e ↦ inr (rest.1 (inr e)) ],
+    )
+
+-- One more literal of a clause c is taken out of what is left of the clause s: before, r was left and o had what
+-- was taken out.
+module _ (s r o q c : Lits) (i : ℕ) (l : Literal) (lt : i < length c) (read : l ≡ get_or c i l)
+    (left : (x : Literal) → Has r x ↔ (Has s x × (Has (take i c) x → ⊥))) where
+  pub left_more : (t : Lits) → ((x : Literal) → Has t x ↔ (Has r x × (x ≢ l)))
+      → (x : Literal) → Has t x ↔ (Has s x × (Has (take (i + 1) c) x → ⊥))
+  left_more t removed x =
+      let more = Has-take_more c i l x lt read in (
+        λ h. let k = (removed x).0 h in
+            let j = (left x).0 k.0 in
+            (j.0, λ n. elim (more.0 n) [ inl m ↦ j.1 m | inr e ↦ k.1 (sym e) ]),
+        λ h. (removed x).1 ((left x).1 (h.0, λ n. h.1 (more.1 (inl n))), λ e. h.1 (more.1 (inr (sym e)))),
+      )
+
+  module _ (moved : (x : Literal) → Has o x ↔ (Has q x ⊎ (Has s x × Has (take i c) x))) where
+    pub moved_more : Has r l → (x : Literal) → Has (o ++ l ∷ []) x ↔ (Has q x ⊎ (Has s x × Has (take (i + 1) c) x))
+    moved_more there x =
+        let more = Has-take_more c i l x lt read in (
+          λ h. elim ((Has-snoc o l x).0 h) [
+            | inl k ↦ elim ((moved x).0 k) [ inl m ↦ inl m | inr m ↦ inr (m.0, more.1 (inl m.1)) ]
+            | inr e ↦ inr (subst (Has s) e ((left l).0 there).0, more.1 (inr e))
+          ],
+          λ h. (Has-snoc o l x).1 (elim h [
+            | inl k ↦ inl ((moved x).1 (inl k))
+            | inr k ↦ elim (more.0 k.1) [ inl m ↦ inl ((moved x).1 (inr (k.0, m))) | inr e ↦ inr e ]
+          ]),
+        )
+
+    pub moved_same : (Has r l → ⊥) → (x : Literal) → Has o x ↔ (Has q x ⊎ (Has s x × Has (take (i + 1) c) x))
+    moved_same gone x =
+        let more = Has-take_more c i l x lt read in (
+          λ h. elim ((moved x).0 h) [ inl m ↦ inl m | inr m ↦ inr (m.0, more.1 (inl m.1)) ],
+          λ h. (moved x).1 (elim h [
+            | inl k ↦ inl k
+            | inr k ↦ elim (more.0 k.1) [
+              | inl m ↦ inr (k.0, m)
+              | inr e ↦ elim (has_cases (take i c) x) [
+                | inl m ↦ inr (k.0, m)
+                | inr none ↦ absurd (gone (let R : Literal → Type 0 = λ y. Has r y in subst R (sym e) ((left x).1 (k.0, none))))
+              ]
+            ]
+          ]),
+        )

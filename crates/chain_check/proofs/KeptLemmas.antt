@@ -229,6 +229,9 @@ module _ (variables : ℕ) (ns : List ℕ) (first current count : ℕ) (kept : I
           let new : one_if (is_running first current 0) ≡ 0 = ap one_if zero_fails in
           let e : count ≡ length (literals_where (is_running first current) 0 ns) = kept.counted in omega arith
 
+      pub length-removed : first ≤ n → f ≡ [] → length (literals_where (is_running first current) 0 (set ns place 0)) + 1 ≡ length r
+      length-removed high none = let e = length_removed high none in let k : count ≡ length (literals_where (is_running first current) 0 ns) = kept.counted in let s : length (literals_where (is_running first current) 0 ns) ≡ length r = ap length is_r in omega arith
+
       pub some_counted : first ≤ n → f ≡ [] → 1 ≤ count
       some_counted high none = let e = length_removed high none in omega arith
 

@@ -2,7 +2,7 @@
 use Rattle.std.proofs.Common.{◌≡◌, ◌≢◌, ℕ, ◌+◌, ◌<◌, ◌↔◌, ◌⊎◌, inl, inr, length, get_or, take, Option, Some, None, sym, ◌∙◌, ap, subst}
 use Rattle.clause_defs.specs.Literals.{Literal, negation}
 use Rattle.clause_defs.specs.Clauses.{Lits, Has}
-use Rattle.clause_defs.specs.Resolution.{Clashes, Step, NoneClashes, SeveralClash}
+use Rattle.clause_defs.specs.Resolution.{Clashes, Step, NoClash, ManyClash}
 use Rattle.clause_laws.proofs.LiteralLemmas.{literal_cases, negation-negation}
 use Rattle.chain_check.specs.Steps.{IsPivot, AddsToStep}
 use Rattle.chain_check.proofs.ClauseLists.{Has-take_more, Has-take, has_cases, negation_swap, not_own_negation}
@@ -23,7 +23,7 @@ module _ (r c : Lits) (i : ℕ) (l : Literal) (lt : i < length c) (read : l ≡ 
         ],
       )
 
-  none_still : (Has r (negation l) → ⊥) → NoneClashes r (take i c) → NoneClashes r (take (i + 1) c)
+  none_still : (Has r (negation l) → ⊥) → NoClash r (take i c) → NoClash r (take (i + 1) c)
   none_still calm before x h =
       elim ((Has-take_more c i l (negation x) lt read).0 h.1) [
         | inl k ↦ before x (h.0, k)
@@ -69,7 +69,7 @@ module _ (r c : Lits) (i : ℕ) (l : Literal) (lt : i < length c) (read : l ≡ 
       subst (λ q. IsPivot r (take (i + 1) c) (Some q)) (sym same) (pivot_new clash (λ x h. before.1 x h ∙ same))
 
   -- a second literal clashes
-  pub several : (p : Literal) → IsPivot r (take i c) (Some p) → Has r (negation l) → Has c l → p ≢ negation l → SeveralClash r c
+  pub several : (p : Literal) → IsPivot r (take i c) (Some p) → Has r (negation l) → Has c l → p ≢ negation l → ManyClash r c
   several p before clash there other =
       (p, negation l, other, (before.0.0, Has-take c i (negation p) before.0.1), (clash, subst (Has c) (sym (negation-negation l)) there))
 

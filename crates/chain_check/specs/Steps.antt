@@ -2,13 +2,12 @@
 use Rattle.std.specs.Prelude.{◌≡◌, ◌↔◌, Option, Some, None}
 use Rattle.clause_defs.specs.Literals.{Literal, negation}
 use Rattle.clause_defs.specs.Clauses.{Lits, Has}
-use Rattle.clause_defs.specs.Resolution.{Clashes, Step, NoneClashes, SeveralClash}
+use Rattle.clause_defs.specs.Resolution.{Clashes, Step, NoClash, ManyClash}
 use Rattle.chain_check.specs.declared.marks.Clash.{Clash}
-use Rattle.chain_check.specs.declared.marks.Clash.TheVariants.{Nowhere, Once, Often}
 
 -- the one literal of r that clashes with c, or that none does
 abbrev pub IsPivot : Lits → Lits → Option Literal → Type 0
-IsPivot r c None = NoneClashes r c
+IsPivot r c None = NoClash r c
 IsPivot r c (Some p) = Clashes r c p × ((l : Literal) → Clashes r c l → l ≡ p)
 
 -- f has the literals of c that are new to r and don't clash with a literal of r
@@ -17,6 +16,6 @@ AddsToStep r c f = (l : Literal) → Has f l ↔ (Has c l × (Has r (negation l)
 
 -- where the literals of r clash with c, and s, what is left after a step where they clash once
 abbrev pub StepGives : Lits → Lits → Clash → Lits → Type 0
-StepGives r c Nowhere s = NoneClashes r c
-StepGives r c Once s = Step r c s
-StepGives r c Often s = SeveralClash r c
+StepGives r c Clash.NoClash s = NoClash r c
+StepGives r c Clash.OneClash s = Step r c s
+StepGives r c Clash.ManyClash s = ManyClash r c

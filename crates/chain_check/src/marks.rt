@@ -1,4 +1,4 @@
-ghost use Rattle.std.specs.Prelude.{◌≡◌, ◌≢◌, ℕ, ◌+◌, ◌-◌, ◌^◌, ◌<◌, ◌≤◌, ◌↔◌, ◌⊎◌, [], length, IfOk, IsTrue};
+ghost use Rattle.std.specs.Prelude.{◌≡◌, ◌≢◌, ℕ, ◌+◌, ◌-◌, ◌^◌, ◌<◌, ◌≤◌, ◌↔◌, ◌⊎◌, [], length, vec_capacity, IfOk, IsTrue};
 ghost use Rattle.std.specs.Bool.{OnTrue, OnFalse};
 ghost use Rattle.clause_defs.specs.Literals.{Literal};
 ghost use Rattle.clause_defs.specs.Clauses.{Has, SameSet, IsOrdered, WithinVariables};
@@ -46,11 +46,11 @@ const NUMBERS: u64 = 1 << 32;
 #[derive(Clone, Copy, Debug, PartialEq, Eq)]
 pub(crate) enum Clash {
     /// No literal does.
-    Nowhere,
+    NoClash,
     /// One literal does.
-    Once,
+    OneClash,
     /// Two or more literals do.
-    Often,
+    ManyClash,
 }
 
 impl Marks {
@@ -149,6 +149,8 @@ impl Marks {
         ensures fresh { self.new.fresh ≡ [] }
         ensures left { self.new.left ≡ self.old.left }
         ensures found { IsTrue result ↔ Has self.old.running l }
+        ensures fewer { OnTrue result (length self.new.running + 1 ≡ length self.old.running) }
+        ensures same { OnFalse result (self.new.running ≡ self.old.running) }
     {
         let place = l.code() as usize;
         let number = u64::from(self.numbers[place]);
@@ -158,6 +160,13 @@ impl Marks {
         self.numbers[place] = 0;
         self.count -= 1;
         true
+    }
+
+    /// How many literals the running clause has.
+    pub(crate) fn len(&self) -> usize
+        ensures { result ≡ length self.now.running }
+    {
+        self.count
     }
 
     /// Whether no literal stands in the running clause.
@@ -194,8 +203,8 @@ impl Marks {
         requires room { 0 < self.old.left }
         ensures variables { self.new.variables ≡ self.old.variables }
         ensures step { StepGives self.old.running c.now result self.new.running }
-        ensures fresh { result ≡ Clash.Once → self.new.fresh ≡ [] }
-        ensures left { result ≡ Clash.Once → self.new.left + 1 ≡ self.old.left }
+        ensures fresh { result ≡ Clash.OneClash → self.new.fresh ≡ [] }
+        ensures left { result ≡ Clash.OneClash → self.new.left + 1 ≡ self.old.left }
     {
         let mut pivot = None;
         let mut added = 0;
@@ -211,19 +220,19 @@ impl Marks {
                 None => pivot = Some(opposite),
                 Some(other) => {
                     if other != opposite {
-                        return Clash::Often;
+                        return Clash::ManyClash;
                     }
                 }
             }
         }
         self.settle(added);
         let Some(pivot) = pivot else {
-            return Clash::Nowhere;
+            return Clash::NoClash;
         };
         if !has(c, pivot) {
             self.remove(pivot);
         }
-        Clash::Once
+        Clash::OneClash
     }
 
     /// Whether the running clause is this one, as a set. Takes the clause's literals out of it, so
@@ -241,6 +250,30 @@ impl Marks {
             }
         }
         self.is_empty()
+    }
+
+    /// Moves the literals of a clause that stand in the running clause to the end of a list with room
+    /// for the whole running clause.
+    pub(crate) fn move_to(&mut self, c: &[Lit], list: &mut Vec<Lit>)
+        requires within { WithinVariables self.old.variables c.now }
+        requires between_steps { self.old.fresh ≡ [] }
+        requires room { length list.old.items + length self.old.running ≤ vec_capacity list.old }
+        ensures variables { self.new.variables ≡ self.old.variables }
+        ensures fresh { self.new.fresh ≡ [] }
+        ensures left { self.new.left ≡ self.old.left }
+        ensures running { (x : Literal)
+            → Has self.new.running x ↔ (Has self.old.running x × (Has c.now x → ⊥)) }
+        ensures moved { (x : Literal)
+            → Has list.new.items x ↔ (Has list.old.items x ⊎ (Has self.old.running x × Has c.now x)) }
+        ensures all { length list.new.items + length self.new.running
+            ≡ length list.old.items + length self.old.running }
+        ensures room { vec_capacity list.new ≡ vec_capacity list.old }
+    {
+        for &l in c {
+            if self.remove(l) {
+                list.push_reserved(l);
+            }
+        }
     }
 }
 

@@ -1,6 +1,6 @@
-use Rattle.std.proofs.Common.{refl, ap, arith}
+use Rattle.std.proofs.Common.{refl, sym, ◌∙◌, ap, arith}
 use Rattle.chain_check.specs.Marks.{Marked}
-use Rattle.chain_check.proofs.KeptLemmas.{some_counted, kept_removed, Has-removed, fresh_removed, found, not_running, Has-absent}
+use Rattle.chain_check.proofs.KeptLemmas.{some_counted, kept_removed, length-removed, Has-removed, fresh_removed, found, not_running, Has-absent}
 use Rattle.chain_check.proofs.marks.Marks.remove.Goals as goal
 
 pub returns-then-number-self-clause-running : goal.returns-then-number-self-clause-running
@@ -69,3 +69,12 @@ returns-clause-found c =
           c.args.l (omega arith) c.code-place.result c.index.result.now c.code-place.ensures.code c.index.ensures (let e = c.from-number.ensures in omega arith) c.requires.between_steps,
       λ h. refl,
     )
+
+pub returns-clause-fewer : goal.returns-clause-fewer
+returns-clause-fewer c =
+    let m = c.self.inside in
+    let size = ap (λ (v : Marked). v.variables) c.self.view_is in
+    length-removed m.variables m.numbers.items m.first m.current m.count c.self.invariant
+    c.args.self.now.running c.args.self.now.fresh
+    (ap (λ (v : Marked). v.running) c.self.view_is) (ap (λ (v : Marked). v.fresh) c.self.view_is)
+    c.args.l (omega arith) c.code-place.result c.index.result.now c.code-place.ensures.code c.index.ensures (let e = c.from-number.ensures in omega arith) c.requires.between_steps

@@ -1,0 +1,132 @@
+-- From what is known of the clauses before a place to the fault of the clause there.
+use Rattle.std.proofs.Common.{◌≡◌, ◌≢◌, ℕ, zero, suc, ◌+◌, ◌*◌, ◌<◌, ◌≤◌, nat_lt, ◌⊎◌, inl, inr, Bool, true, false, if◌then◌else◌, List, [], ◌∷◌, length, get_or, map, set, Option, Some, None, Result, Ok, Err, refl, sym, ◌∙◌, ap, subst, arith, add-one, length-set, get_or-set_same, get_or-set_other}
+use Rattle.std.proofs.lemmas.Bool.{cases_order, cases_eq, cases_lt, le-ltb, lt-ltb}
+use Rattle.clause_defs.specs.Literals.{Literal, code}
+use Rattle.clause_defs.specs.Clauses.{Lits, Has, SameSet, HasClause, IsOrdered}
+use Rattle.clause_defs.specs.Resolution.{Resolves, chain_of}
+use Rattle.clause_defs.specs.Traces.{Entry, IsCompactAt, stated_at, lits_at, antecedents_at, index_at, AntecedentsAreEarlier}
+use Rattle.clause_defs.specs.TraceClauses.{LitsOf, antecedent_lits, all_given, given_with, given_by, computed_size, computed_before}
+use Rattle.clause_defs.specs.Verdicts.{ChainFault, compact_fault_of, derived_fault_of, DerivedFault, FaultWith, ClauseFault}
+use Rattle.clause_defs.specs.declared.verdict.ChainError.{ChainError}
+use Rattle.clause_defs.specs.declared.verdict.Verdict.{Verdict}
+use Rattle.clause_laws.proofs.ClauseLemmas.{same_refl, same_sym, same_trans, same_ordered}
+use Rattle.clause_laws.proofs.Resolvents.{resolves-chain_of, resolves_same}
+use Rattle.clause_laws.proofs.TraceLits.{lits_stated, lits_given}
+use Rattle.chain_check.specs.Known.{stated_else, literals_at, AreLiteralsOf, AreOver, IsKnownBefore, sign_count, signs_before}
+use Rattle.chain_check.proofs.EndLemmas.{AllSame, fault_err, fault_ok, fault_other, fault_among, resolves_among}
+
+-- an ordered clause over so many variables has at most twice as many literals
+ordered_length : (c : Lits) (low high : ℕ) → low ≤ high → IsOrdered c → ((l : Literal) → Has c l → (low ≤ code l) × (code l < high))
+    → length c + low ≤ high
+ordered_length [] low high le o within = omega arith
+ordered_length (l ∷ ls) low high le o within =
+    let own = within l (inl refl) in
+    let rest = ordered_length ls (code l + 1) high (omega (arith, own.1)) o.1 (λ m h. let above : code l < code m = o.0 m h in let k = within m (inr h) in (omega arith, k.1)) in
+    omega (arith, own.0)
+
+code_range : (l : Literal) (variables : ℕ) → 1 ≤ l.variable → l.variable ≤ variables → (2 ≤ code l) × (code l < 2 * variables + 2)
+code_range l variables low high = at_sign l.variable l.positive low high
+  where
+    at_sign : (v : ℕ) (b : Bool) → 1 ≤ v → v ≤ variables → (2 ≤ 2 * v + (if b then 1 else 0)) × (2 * v + (if b then 1 else 0) < 2 * variables + 2)
+    at_sign v true low high = (omega arith, omega arith)
+    at_sign v false low high = (omega arith, omega arith)
+
+pub over_length : (c : Lits) (variables : ℕ) → IsOrdered c → AreOver variables c → length c ≤ 2 * variables
+over_length c variables o over =
+    let all = ordered_length c 2 (2 * variables + 2) (omega arith) o (λ l h. let k = over l h in code_range l variables k.0 k.1) in
+    omega arith
+
+-- the literals of each antecedent are known, so all are given
+known_given : (g : ℕ → Lits) (h : ℕ → Option Lits) (ps : List ℕ) → ((p : ℕ) → Has ps p → AreLiteralsOf (h p) (g p))
+    → (cs : List Lits) × (all_given (map h ps) ≡ Some cs) × AllSame (map g ps) cs
+known_given g h [] known = ([], refl, tt)
+known_given g h (p ∷ ps) known =
+    let rest = known_given g h ps (λ q i. known q (inr i)) in
+    first (h p) refl rest (known p (inl refl))
+  where
+    first : (o : Option Lits) → h p ≡ o → ((cs : List Lits) × (all_given (map h ps) ≡ Some cs) × AllSame (map g ps) cs)
+        → AreLiteralsOf o (g p) → (cs : List Lits) × (all_given (map h (p ∷ ps)) ≡ Some cs) × AllSame (map g (p ∷ ps)) cs
+    first None e rest are = absurd are
+    first (Some c) e rest are = (
+      c ∷ rest.0,
+      ap (λ o. given_with o (all_given (map h ps))) e ∙ ap (given_with (Some c)) rest.1,
+      (are.0, rest.2),
+    )
+
+-- what is left to say of a derived clause, from the end of its chain
+with_antecedents : (f : List Lits) (t : List Entry) (w k : ℕ) (ps : List ℕ) (found : Option Verdict) → ps ≢ []
+    → DerivedFault t w k (antecedent_lits t k) found → FaultWith f t w k ps found
+with_antecedents f t w k [] found ne h = absurd (ne refl)
+with_antecedents f t w k (p ∷ ps) found ne h = h
+
+module _ (f : List Lits) (t : List Entry) (w k variables : ℕ) (computed : List Lits) (earlier : AntecedentsAreEarlier t)
+    (known : IsKnownBefore t variables computed k) where
+  given : (cs : List Lits) × (antecedent_lits t k ≡ Some cs) × AllSame (map (literals_at t computed) (antecedents_at t k)) cs
+  given = known_given (literals_at t computed) (LitsOf t) (antecedents_at t k) (λ p i. known.literals p (earlier k p i))
+
+  clauses : List Lits
+  unfolding clauses
+  clauses = map (literals_at t computed) (antecedents_at t k)
+
+  module _ (derived : antecedents_at t k ≢ []) where
+    fault_from : (stated : Option Lits) (end : Result (Unit {0}) ChainError) → stated_at t k ≡ stated
+        → ChainFault (index_at t k) stated (map (literals_at t computed) (antecedents_at t k)) end
+        → ClauseFault f t w k (derived_fault_of t w k stated end)
+    fault_from stated end e h =
+        with_antecedents f t w k (antecedents_at t k) (derived_fault_of t w k stated end) derived
+        (subst (λ o. DerivedFault t w k o (derived_fault_of t w k stated end)) (sym given.1)
+        (end,
+          fault_among (index_at t k) (stated_at t k) (map (literals_at t computed) (antecedents_at t k)) given.0 end given.2
+          (subst (λ s. ChainFault (index_at t k) s (map (literals_at t computed) (antecedents_at t k)) end) (sym e) h),
+          ap (λ s. derived_fault_of t w k s end) (sym e)))
+
+    -- the fault of a clause with stated literals
+    pub stated_fault : (end : Result (Unit {0}) ChainError) → (c : Lits) → stated_at t k ≡ Some c
+        → ChainFault (index_at t k) (Some c) (map (literals_at t computed) (antecedents_at t k)) end
+        → ClauseFault f t w k (derived_fault_of t w k (Some c) end)
+    stated_fault end c e h = fault_from (Some c) end e h
+
+    -- a faulty step, whatever is stated
+    pub step_fault : (e : ChainError) → ChainFault (index_at t k) None (map (literals_at t computed) (antecedents_at t k)) (Err e)
+        → ClauseFault f t w k (Some (Verdict.Chain e))
+    step_fault e h = by_stated (stated_at t k) refl
+      where
+        by_stated : (stated : Option Lits) → stated_at t k ≡ stated → ClauseFault f t w k (Some (Verdict.Chain e))
+        by_stated None s = fault_from None (Err e) s h
+        by_stated (Some c) s = fault_from (Some c) (Err e) s (fault_err (index_at t k) c (map (literals_at t computed) (antecedents_at t k)) e h)
+
+    module _ (s : Lits) (chain : Resolves (map (literals_at t computed) (antecedents_at t k)) s) where
+      -- the chain comes to the stated clause
+      pub stated_right : (c : Lits) → stated_at t k ≡ Some c → SameSet s c → ClauseFault f t w k None
+      stated_right c e same =
+          fault_from (Some c) (Ok tt) e (fault_ok (index_at t k) c (map (literals_at t computed) (antecedents_at t k)) s chain same)
+
+      -- or to another
+      pub stated_other : (c : Lits) → stated_at t k ≡ Some c → (SameSet s c → ⊥) → ClauseFault f t w k (Some (Verdict.Chain (ChainError.Other (index_at t k))))
+      stated_other c e other =
+          fault_from (Some c) (Err (ChainError.Other (index_at t k))) e
+          (fault_other (index_at t k) c (map (literals_at t computed) (antecedents_at t k)) s chain other)
+
+      module _ (ordered : IsOrdered s) (sign : IsCompactAt t k) where
+        -- the clause that the chain comes to is the clause of the trace
+        pub lits_computed : LitsOf t k ≡ Some s
+        lits_computed =
+            lits_given t k earlier sign ∙ ap given_by given.1
+            ∙ resolves-chain_of given.0 s (resolves_among (map (literals_at t computed) (antecedents_at t k)) given.0 s given.2 chain) ordered
+
+        -- so many literals there are with it
+        pub computed_more : computed_before t (suc k) ≡ computed_before t k + length s
+        computed_more =
+            ap (λ o. computed_before t k + computed_size o (LitsOf t k)) sign
+            ∙ ap (λ o. computed_before t k + computed_size None o) lits_computed
+
+        module _ (ends : ChainFault (index_at t k) None (map (literals_at t computed) (antecedents_at t k)) (Ok tt)) where
+          pub sign_right : computed_before t k + length s ≤ w → ClauseFault f t w k None
+          sign_right narrow =
+              subst (ClauseFault f t w k) (ap (λ b. if b then Some (Verdict.TooWide (index_at t k)) else None) (le-ltb w (computed_before t (k + 1)) (let more : computed_before t (k + 1) ≡ computed_before t k + length s = rw add-one computed_more in omega arith)))
+              (fault_from None (Ok tt) sign ends)
+
+          pub sign_wide : w < computed_before t k + length s → ClauseFault f t w k (Some (Verdict.TooWide (index_at t k)))
+          sign_wide wide =
+              subst (ClauseFault f t w k) (ap (λ b. if b then Some (Verdict.TooWide (index_at t k)) else None) (lt-ltb w (computed_before t (k + 1)) (let more : computed_before t (k + 1) ≡ computed_before t k + length s = rw add-one computed_more in omega arith)))
+              (fault_from None (Ok tt) sign ends)

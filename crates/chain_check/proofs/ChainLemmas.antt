@@ -1,11 +1,11 @@
 -- How a chain begins, and how it goes on.
-use Rattle.std.proofs.Common.{◌≡◌, ℕ, ◌<◌, inl, inr, List, [], ◌∷◌, length, get_or, map, drop, Option, Some, None, Result, Err, refl, sym, subst, arith}
+use Rattle.std.proofs.Common.{◌≡◌, ℕ, ◌+◌, ◌<◌, ◌≤◌, inl, inr, List, [], ◌∷◌, length, get_or, map, drop, Option, Some, None, Result, Ok, Err, refl, sym, subst, arith, drop_of_length-le}
 use Rattle.std.proofs.lemmas.List.{drop_more, get_or_default}
 use Rattle.clause_defs.specs.Clauses.{Lits, Has, SameSet}
 use Rattle.clause_defs.specs.Resolution.{Step, NoClash, ManyClash, Chain, Resolves}
 use Rattle.clause_defs.specs.Verdicts.{EndsAt, ChainEnds, ChainFault}
 use Rattle.clause_defs.specs.declared.verdict.ChainError.{ChainError}
-use Rattle.clause_laws.proofs.ClauseLemmas.{same_sym, same_trans}
+use Rattle.clause_laws.proofs.ClauseLemmas.{same_refl, same_sym, same_trans}
 use Rattle.clause_laws.proofs.Resolvents.{chain_same}
 use Rattle.chain_check.proofs.ClauseLists.{Has-get}
 
@@ -56,12 +56,35 @@ module _ (g : ℕ → Lits) (index : ℕ) where
   resolves_begins [] r some same s h = absurd (omega arith)
   resolves_begins (p ∷ ps) r some same s h = chain_same r (g p) (map g ps) s same h
 
-  -- a chain ends where several literals clash
+  -- a chain ends where none or several literals clash
   pub chain_clashes_often : (ps : List ℕ) (step : ℕ) (r : Lits) → step < length ps → ManyClash r (g (get_or ps step 0))
       → ChainEnds index None step r (map g (drop step ps)) (Err (ChainError.ManyClash index step))
   chain_clashes_often ps step r lt several =
       subst (λ (qs : List ℕ). ChainEnds index None step r (map g qs) (Err (ChainError.ManyClash index step)))
       (sym (drop_more ps step 0 lt)) (inr (inl (several, refl)))
+
+  pub chain_clashes_never : (ps : List ℕ) (step : ℕ) (r : Lits) → step < length ps → NoClash r (g (get_or ps step 0))
+      → ChainEnds index None step r (map g (drop step ps)) (Err (ChainError.NoClash index step))
+  chain_clashes_never ps step r lt none =
+      subst (λ (qs : List ℕ). ChainEnds index None step r (map g qs) (Err (ChainError.NoClash index step)))
+      (sym (drop_more ps step 0 lt)) (inl (none, refl))
+
+  -- or goes on where one does
+  pub chain_steps : (ps : List ℕ) (step : ℕ) (r s : Lits) → step < length ps → Step r (g (get_or ps step 0)) s → (end : Result (Unit {0}) ChainError)
+      → ChainEnds index None (step + 1) s (map g (drop (step + 1) ps)) end → ChainEnds index None step r (map g (drop step ps)) end
+  chain_steps ps step r s lt one end h =
+      subst (λ (qs : List ℕ). ChainEnds index None step r (map g qs) end) (sym (drop_more ps step 0 lt)) (inr (inr (s, one, h)))
+
+  pub resolves_steps : (ps : List ℕ) (step : ℕ) (r s : Lits) → step < length ps → Step r (g (get_or ps step 0)) s → (q : Lits)
+      → Chain s (map g (drop (step + 1) ps)) q → Chain r (map g (drop step ps)) q
+  resolves_steps ps step r s lt one q h = subst (λ (qs : List ℕ). Chain r (map g qs) q) (sym (drop_more ps step 0 lt)) (s, one, h)
+
+  -- or is at its end
+  pub chain_stops : (ps : List ℕ) (step : ℕ) (r : Lits) → length ps ≤ step → ChainEnds index None step r (map g (drop step ps)) (Ok tt)
+  chain_stops ps step r le = subst (λ (qs : List ℕ). ChainEnds index None step r (map g qs) (Ok tt)) (sym (drop_of_length-le ps le)) refl
+
+  pub resolves_stops : (ps : List ℕ) (step : ℕ) (r : Lits) → length ps ≤ step → Chain r (map g (drop step ps)) r
+  resolves_stops ps step r le = subst (λ (qs : List ℕ). Chain r (map g qs) r) (sym (drop_of_length-le ps le)) (same_refl r)
 
 pub some_antecedent : (ps qs : List ℕ) → ps ≡ qs → (qs ≡ [] → ⊥) → 0 < length ps
 some_antecedent [] qs e ne = absurd (ne (sym e))

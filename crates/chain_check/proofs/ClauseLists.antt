@@ -123,3 +123,7 @@ module _ (s r o q c : Lits) (i : ℕ) (l : Literal) (lt : i < length c) (read : 
             ]
           ]),
         )
+
+pub no_length : {X : Type 0} (xs : List X) → length xs ≡ 0 → xs ≡ []
+no_length [] e = refl
+no_length (x ∷ xs) e = absurd (omega arith)

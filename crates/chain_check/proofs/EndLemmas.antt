@@ -1,11 +1,11 @@
 -- How the end of a chain depends on its clauses as sets and on the stated clause.
-use Rattle.std.proofs.Common.{◌≡◌, ◌≢◌, ℕ, ◌+◌, ◌⊎◌, inl, inr, List, [], ◌∷◌, map, Option, Some, None, Result, Ok, Err, refl, sym, subst}
+use Rattle.std.proofs.Common.{ℕ, ◌+◌, ◌⊎◌, inl, inr, List, [], ◌∷◌, map, Option, Some, None, Result, Ok, Err, refl, sym, subst}
 use Rattle.clause_defs.specs.Literals.{Literal, negation}
 use Rattle.clause_defs.specs.Clauses.{Lits, Has, SameSet}
 use Rattle.clause_defs.specs.Resolution.{Step, NoClash, ManyClash, Chain, Resolves}
 use Rattle.clause_defs.specs.Verdicts.{ChainEnds, ChainFault}
 use Rattle.clause_defs.specs.declared.verdict.ChainError.{ChainError}
-use Rattle.clause_laws.proofs.ClauseLemmas.{same_refl, same_sym, same_trans, Has-map}
+use Rattle.clause_laws.proofs.ClauseLemmas.{same_sym, same_trans, Has-map}
 use Rattle.clause_laws.proofs.Resolvents.{chain_same}
 use Rattle.chain_check.proofs.ChainLemmas.{ends_same}
 

@@ -1,18 +1,18 @@
 -- From what is known of the clauses before a place to the fault of the clause there.
-use Rattle.std.proofs.Common.{◌≡◌, ◌≢◌, ℕ, zero, suc, ◌+◌, ◌*◌, ◌<◌, ◌≤◌, nat_lt, ◌⊎◌, inl, inr, Bool, true, false, if◌then◌else◌, List, [], ◌∷◌, length, get_or, map, set, Option, Some, None, Result, Ok, Err, refl, sym, ◌∙◌, ap, subst, arith, add-one, length-set, get_or-set_same, get_or-set_other}
-use Rattle.std.proofs.lemmas.Bool.{cases_order, cases_eq, cases_lt, le-ltb, lt-ltb}
+use Rattle.std.proofs.Common.{◌≡◌, ◌≢◌, ℕ, zero, suc, ◌+◌, ◌*◌, ◌<◌, ◌≤◌, inl, inr, Bool, true, false, if◌then◌else◌, List, [], ◌∷◌, length, get_or, map, set, Option, Some, None, Result, Ok, Err, refl, sym, ◌∙◌, ap, subst, arith, add-one, get_or-set_same, get_or-set_other}
+use Rattle.std.proofs.lemmas.Bool.{cases_order, cases_eq, le-ltb, lt-ltb}
 use Rattle.clause_defs.specs.Literals.{Literal, code}
-use Rattle.clause_defs.specs.Clauses.{Lits, Has, SameSet, HasClause, IsOrdered}
-use Rattle.clause_defs.specs.Resolution.{Resolves, chain_of}
-use Rattle.clause_defs.specs.Traces.{Entry, IsCompactAt, stated_at, lits_at, antecedents_at, index_at, AntecedentsAreEarlier}
+use Rattle.clause_defs.specs.Clauses.{Lits, Has, SameSet, IsOrdered}
+use Rattle.clause_defs.specs.Resolution.{Resolves}
+use Rattle.clause_defs.specs.Traces.{Entry, IsCompactAt, literals_in, stated_at, lits_at, antecedents_at, index_at, AntecedentsAreEarlier}
 use Rattle.clause_defs.specs.TraceClauses.{LitsOf, antecedent_lits, all_given, given_with, given_by, computed_size, computed_before}
-use Rattle.clause_defs.specs.Verdicts.{ChainFault, compact_fault_of, derived_fault_of, DerivedFault, FaultWith, ClauseFault}
+use Rattle.clause_defs.specs.Verdicts.{ChainFault, derived_fault_of, DerivedFault, FaultWith, ClauseFault}
 use Rattle.clause_defs.specs.declared.verdict.ChainError.{ChainError}
 use Rattle.clause_defs.specs.declared.verdict.Verdict.{Verdict}
-use Rattle.clause_laws.proofs.ClauseLemmas.{same_refl, same_sym, same_trans, same_ordered}
-use Rattle.clause_laws.proofs.Resolvents.{resolves-chain_of, resolves_same}
-use Rattle.clause_laws.proofs.TraceLits.{lits_stated, lits_given}
-use Rattle.chain_check.specs.Known.{stated_else, literals_at, AreLiteralsOf, AreOver, IsKnownBefore, sign_count, signs_before}
+use Rattle.clause_laws.proofs.ClauseLemmas.{same_refl}
+use Rattle.clause_laws.proofs.Resolvents.{resolves-chain_of}
+use Rattle.clause_laws.proofs.TraceLits.{map_same, lits_stated, lits_given}
+use Rattle.chain_check.specs.Known.{stated_else, literals_at, antecedents_known, AreLiteralsOf, AreOver, IsKnownBefore, sign_count, signs_before}
 use Rattle.chain_check.proofs.EndLemmas.{AllSame, fault_err, fault_ok, fault_other, fault_among, resolves_among}
 
 -- an ordered clause over so many variables has at most twice as many literals
@@ -61,58 +61,55 @@ with_antecedents f t w k (p ∷ ps) found ne h = h
 
 module _ (f : List Lits) (t : List Entry) (w k variables : ℕ) (computed : List Lits) (earlier : AntecedentsAreEarlier t)
     (known : IsKnownBefore t variables computed k) where
-  given : (cs : List Lits) × (antecedent_lits t k ≡ Some cs) × AllSame (map (literals_at t computed) (antecedents_at t k)) cs
+  given : (cs : List Lits) × (antecedent_lits t k ≡ Some cs) × AllSame (antecedents_known t computed k) cs
   given = known_given (literals_at t computed) (LitsOf t) (antecedents_at t k) (λ p i. known.literals p (earlier k p i))
-
-  clauses : List Lits
-  unfolding clauses
-  clauses = map (literals_at t computed) (antecedents_at t k)
 
   module _ (derived : antecedents_at t k ≢ []) where
     fault_from : (stated : Option Lits) (end : Result (Unit {0}) ChainError) → stated_at t k ≡ stated
-        → ChainFault (index_at t k) stated (map (literals_at t computed) (antecedents_at t k)) end
+        → ChainFault (index_at t k) stated (antecedents_known t computed k) end
         → ClauseFault f t w k (derived_fault_of t w k stated end)
     fault_from stated end e h =
         with_antecedents f t w k (antecedents_at t k) (derived_fault_of t w k stated end) derived
-        (subst (λ o. DerivedFault t w k o (derived_fault_of t w k stated end)) (sym given.1)
-        (end,
-          fault_among (index_at t k) (stated_at t k) (map (literals_at t computed) (antecedents_at t k)) given.0 end given.2
-          (subst (λ s. ChainFault (index_at t k) s (map (literals_at t computed) (antecedents_at t k)) end) (sym e) h),
-          ap (λ s. derived_fault_of t w k s end) (sym e)))
+        (subst (λ o. DerivedFault t w k o (derived_fault_of t w k stated end)) (sym given.1) (
+          end,
+          fault_among (index_at t k) (stated_at t k) (antecedents_known t computed k) given.0 end given.2
+              (subst (λ s. ChainFault (index_at t k) s (antecedents_known t computed k) end) (sym e) h),
+          ap (λ s. derived_fault_of t w k s end) (sym e),
+        ))
 
     -- the fault of a clause with stated literals
     pub stated_fault : (end : Result (Unit {0}) ChainError) → (c : Lits) → stated_at t k ≡ Some c
-        → ChainFault (index_at t k) (Some c) (map (literals_at t computed) (antecedents_at t k)) end
+        → ChainFault (index_at t k) (Some c) (antecedents_known t computed k) end
         → ClauseFault f t w k (derived_fault_of t w k (Some c) end)
     stated_fault end c e h = fault_from (Some c) end e h
 
     -- a faulty step, whatever is stated
-    pub step_fault : (e : ChainError) → ChainFault (index_at t k) None (map (literals_at t computed) (antecedents_at t k)) (Err e)
+    pub step_fault : (e : ChainError) → ChainFault (index_at t k) None (antecedents_known t computed k) (Err e)
         → ClauseFault f t w k (Some (Verdict.Chain e))
     step_fault e h = by_stated (stated_at t k) refl
       where
         by_stated : (stated : Option Lits) → stated_at t k ≡ stated → ClauseFault f t w k (Some (Verdict.Chain e))
         by_stated None s = fault_from None (Err e) s h
-        by_stated (Some c) s = fault_from (Some c) (Err e) s (fault_err (index_at t k) c (map (literals_at t computed) (antecedents_at t k)) e h)
+        by_stated (Some c) s = fault_from (Some c) (Err e) s (fault_err (index_at t k) c (antecedents_known t computed k) e h)
 
-    module _ (s : Lits) (chain : Resolves (map (literals_at t computed) (antecedents_at t k)) s) where
+    module _ (s : Lits) (chain : Resolves (antecedents_known t computed k) s) where
       -- the chain comes to the stated clause
       pub stated_right : (c : Lits) → stated_at t k ≡ Some c → SameSet s c → ClauseFault f t w k None
       stated_right c e same =
-          fault_from (Some c) (Ok tt) e (fault_ok (index_at t k) c (map (literals_at t computed) (antecedents_at t k)) s chain same)
+          fault_from (Some c) (Ok tt) e (fault_ok (index_at t k) c (antecedents_known t computed k) s chain same)
 
       -- or to another
       pub stated_other : (c : Lits) → stated_at t k ≡ Some c → (SameSet s c → ⊥) → ClauseFault f t w k (Some (Verdict.Chain (ChainError.Other (index_at t k))))
       stated_other c e other =
           fault_from (Some c) (Err (ChainError.Other (index_at t k))) e
-          (fault_other (index_at t k) c (map (literals_at t computed) (antecedents_at t k)) s chain other)
+          (fault_other (index_at t k) c (antecedents_known t computed k) s chain other)
 
       module _ (ordered : IsOrdered s) (sign : IsCompactAt t k) where
         -- the clause that the chain comes to is the clause of the trace
         pub lits_computed : LitsOf t k ≡ Some s
         lits_computed =
             lits_given t k earlier sign ∙ ap given_by given.1
-            ∙ resolves-chain_of given.0 s (resolves_among (map (literals_at t computed) (antecedents_at t k)) given.0 s given.2 chain) ordered
+            ∙ resolves-chain_of given.0 s (resolves_among (antecedents_known t computed k) given.0 s given.2 chain) ordered
 
         -- so many literals there are with it
         pub computed_more : computed_before t (suc k) ≡ computed_before t k + length s
@@ -120,7 +117,7 @@ module _ (f : List Lits) (t : List Entry) (w k variables : ℕ) (computed : List
             ap (λ o. computed_before t k + computed_size o (LitsOf t k)) sign
             ∙ ap (λ o. computed_before t k + computed_size None o) lits_computed
 
-        module _ (ends : ChainFault (index_at t k) None (map (literals_at t computed) (antecedents_at t k)) (Ok tt)) where
+        module _ (ends : ChainFault (index_at t k) None (antecedents_known t computed k) (Ok tt)) where
           pub sign_right : computed_before t k + length s ≤ w → ClauseFault f t w k None
           sign_right narrow =
               subst (ClauseFault f t w k) (ap (λ b. if b then Some (Verdict.TooWide (index_at t k)) else None) (le-ltb w (computed_before t (k + 1)) (let more : computed_before t (k + 1) ≡ computed_before t k + length s = rw add-one computed_more in omega arith)))
@@ -130,3 +127,108 @@ module _ (f : List Lits) (t : List Entry) (w k variables : ℕ) (computed : List
           sign_wide wide =
               subst (ClauseFault f t w k) (ap (λ b. if b then Some (Verdict.TooWide (index_at t k)) else None) (lt-ltb w (computed_before t (k + 1)) (let more : computed_before t (k + 1) ≡ computed_before t k + length s = rw add-one computed_more in omega arith)))
               (fault_from None (Ok tt) sign ends)
+
+-- ---- one more known clause
+
+stated_last : (stated : Lits) (computed : Lits) → computed ≡ [] → stated_else stated computed ≡ stated
+stated_last [] computed e = e
+stated_last (l ∷ ls) computed e = refl
+
+module _ (t : List Entry) (variables : ℕ) (computed : List Lits) (k : ℕ) (known : IsKnownBefore t variables computed k) where
+  pub known_stated : (c : Lits) → stated_at t k ≡ Some c → IsKnownBefore t variables computed (suc k)
+  known_stated c e = record {
+    literals = λ p lt. elim (cases_order p k) [
+      | inl at ↦ subst (λ q. AreLiteralsOf (LitsOf t q) (literals_at t computed q)) (sym at) here
+      | inr other ↦ elim other [ inl below ↦ known.literals p below | inr above ↦ absurd (omega arith) ]
+    ];
+    over = known.over;
+    later = λ p le. known.later p (omega arith);
+  }
+    where
+      same : literals_at t computed k ≡ c
+      same = stated_last (lits_at t k) (get_or computed k []) (known.later k (omega arith)) ∙ ap literals_in e
+
+      here : AreLiteralsOf (LitsOf t k) (literals_at t computed k)
+      here = subst (λ o. AreLiteralsOf o (literals_at t computed k)) (sym (lits_stated t k c e))
+          (subst (λ ls. SameSet ls c × (length ls ≡ length c)) (sym same) (same_refl c, refl))
+
+  module _ (ls s : Lits) (lits : LitsOf t k ≡ Some s) (same : SameSet ls s) (long : length ls ≡ length s) (over : AreOver variables ls)
+      (sign : IsCompactAt t k) (place : k < length computed) where
+    other_place : (p : ℕ) → (p ≡ k → ⊥) → literals_at t (set computed k ls) p ≡ literals_at t computed p
+    other_place p ne = ap (stated_else (lits_at t p)) (get_or-set_other computed k p ls [] ne)
+
+    own_place : literals_at t (set computed k ls) k ≡ ls
+    own_place = ap (λ o. stated_else (literals_in o) (get_or (set computed k ls) k [])) sign ∙ get_or-set_same computed k ls [] place
+
+    pub known_computed : IsKnownBefore t variables (set computed k ls) (suc k)
+    known_computed = record {
+      literals = λ p lt. elim (cases_order p k) [
+        | inl at ↦ subst (λ q. AreLiteralsOf (LitsOf t q) (literals_at t (set computed k ls) q)) (sym at)
+            (subst (λ o. AreLiteralsOf o (literals_at t (set computed k ls) k)) (sym lits)
+            (subst (λ ms. SameSet ms s × (length ms ≡ length s)) (sym own_place) (same, long)))
+        | inr other ↦ elim other [
+          | inl below ↦ subst (AreLiteralsOf (LitsOf t p)) (sym (other_place p (λ e. omega arith))) (known.literals p below)
+          | inr above ↦ absurd (omega arith)
+        ]
+      ];
+      over = λ p. elim (cases_eq p k) [
+        | inl at ↦ subst (λ q. AreOver variables (literals_at t (set computed k ls) q)) (sym at) (subst (AreOver variables) (sym own_place) over)
+        | inr ne ↦ subst (AreOver variables) (sym (other_place p ne)) (known.over p)
+      ];
+      later = λ p le. get_or-set_other computed k p ls [] (λ e. omega arith) ∙ known.later p (omega arith);
+    }
+
+-- nothing is computed before the first place
+pub known_nothing : (t : List Entry) (variables : ℕ) (computed : List Lits) → ((p : ℕ) → get_or computed p [] ≡ [])
+    → ((p : ℕ) → AreOver variables (lits_at t p)) → IsKnownBefore t variables computed 0
+known_nothing t variables computed none over = record {
+  literals = λ p lt. absurd (omega arith);
+  over = λ p. subst (AreOver variables) (sym (stated_last (lits_at t p) (get_or computed p []) (none p))) (over p);
+  later = λ p le. none p;
+}
+
+-- ---- how many literals are computed
+
+module _ (t : List Entry) (k : ℕ) where
+  pub signs_sign : IsCompactAt t k → signs_before t (suc k) ≡ signs_before t k + 1
+  signs_sign e = ap (λ o. signs_before t k + sign_count o) e
+
+  pub signs_stated : (c : Lits) → stated_at t k ≡ Some c → signs_before t (suc k) ≡ signs_before t k
+  signs_stated c e = ap (λ o. signs_before t k + sign_count o) e ∙ omega arith
+
+  pub computed_stated : (c : Lits) → stated_at t k ≡ Some c → computed_before t (suc k) ≡ computed_before t k
+  computed_stated c e = ap (λ o. computed_before t k + computed_size o (LitsOf t k)) e ∙ omega arith
+
+pub signs-mono : (t : List Entry) (k n : ℕ) → k ≤ n → signs_before t k ≤ signs_before t n
+signs-mono t k zero le = let e : k ≡ 0 = omega arith in rw e (omega arith)
+signs-mono t k (suc n) le = elim (cases_order k (suc n)) [
+  | inl e ↦ rw e (omega arith)
+  | inr other ↦ elim other [
+    | inl below ↦ let rest = signs-mono t k n (omega arith) in omega arith
+    | inr above ↦ absurd (omega arith)
+  ]
+]
+
+-- without computed clauses the stated ones are known
+pub literals_stated : (t : List Entry) (p : ℕ) → literals_at t [] p ≡ lits_at t p
+literals_stated t p = stated_last (lits_at t p) (get_or [] p []) (none p)
+  where
+    none : (p : ℕ) → get_or {A = Lits} [] p [] ≡ []
+    none zero = refl
+    none (suc p) = refl
+
+pub antecedents_stated : (t : List Entry) (k : ℕ) → antecedents_known t [] k ≡ map (lits_at t) (antecedents_at t k)
+antecedents_stated t k = map_same (literals_at t []) (lits_at t) (antecedents_at t k) (λ p i. literals_stated t p)
+
+-- what is stated, where something is
+pub there : (stated : Option Lits) → (stated ≡ None → ⊥) → stated ≡ Some (literals_in stated)
+there None h = absurd (h refl)
+there (Some c) h = refl
+
+-- how the chain of a stated clause ends over stated clauses
+pub end_stated : (t : List Entry) (k : ℕ) → stated_at t k ≢ None → (end : Result (Unit {0}) ChainError)
+    → ChainFault (index_at t k) (Some (lits_at t k)) (antecedents_known t [] k) end
+    → ChainFault (index_at t k) (stated_at t k) (map (lits_at t) (antecedents_at t k)) end
+end_stated t k some end h =
+    subst (λ o. ChainFault (index_at t k) o (map (lits_at t) (antecedents_at t k)) end) (sym (there (stated_at t k) some))
+    (subst (λ cs. ChainFault (index_at t k) (Some (lits_at t k)) cs end) (antecedents_stated t k) h)

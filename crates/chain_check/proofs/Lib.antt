@@ -5,4 +5,5 @@ pub mod StepLemmas
 pub mod ChainLemmas
 pub mod EndLemmas
 pub mod KnownLemmas
+pub mod RoomLemmas
 pub mod PartLemmas

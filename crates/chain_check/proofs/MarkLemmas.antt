@@ -2,7 +2,7 @@
 use Rattle.std.proofs.Common.{◌≡◌, ◌≢◌, ℕ, zero, suc, ◌+◌, ◌<◌, ◌≤◌, ◌↔◌, ◌⊎◌, inl, inr, Bool, true, false, List, [], ◌∷◌, length, get_or, set, refl, sym, ◌∙◌, ap, subst, arith, length-set, get_or-set_same, get_or-set_other}
 use Rattle.std.proofs.lemmas.Bool.{cases_eq, true≢false}
 use Rattle.clause_defs.specs.Literals.{Literal, code}
-use Rattle.clause_defs.specs.Clauses.{Lits, Has}
+use Rattle.clause_defs.specs.Clauses.{Lits, Has, IsOrdered}
 use Rattle.pch_base.specs.Lits.{literal_of}
 use Rattle.pch_base.specs.LitCodes.{literal_of-code, code-literal_of, code_injective}
 use Rattle.chain_check.specs.Marks.{with_literal, literals_where}
@@ -160,3 +160,15 @@ length-literals_add t u both h at (n ∷ ns) =
     let c = length-with_literal (both n) (literal_of at) (literals_where both (at + 1) ns) in
     let d = length-literals_add t u both h (at + 1) ns in
     let e = h n in omega arith
+
+ordered_if : (b : Bool) (l : Literal) (ls : Lits) → ((m : Literal) → Has ls m → code l < code m) → IsOrdered ls → IsOrdered (with_literal b l ls)
+ordered_if true l ls above o = (above, o)
+ordered_if false l ls above o = o
+
+-- they are in their order
+pub IsOrdered-literals_where : (test : ℕ → Bool) (at : ℕ) (ns : List ℕ) → IsOrdered (literals_where test at ns)
+IsOrdered-literals_where test at [] = tt
+IsOrdered-literals_where test at (n ∷ ns) =
+    ordered_if (test n) (literal_of at) (literals_where test (at + 1) ns)
+    (λ m h. let p = place_of test (at + 1) ns m h in let e : code m ≡ at + 1 + p.0 = p.1 in let own = code-literal_of at in omega arith)
+    (IsOrdered-literals_where test (at + 1) ns)

@@ -1,5 +1,5 @@
 -- Parts of a list of literals, as the list grows.
-use Rattle.std.proofs.Common.{◌≡◌, ℕ, zero, suc, ◌+◌, ◌<◌, ◌≤◌, List, [], ◌∷◌, ◌++◌, length, get_or, set, map, take, drop, replicate, Result, Ok, Err, is_ok, IsOk, if◌then◌else◌, refl, sym, ◌∙◌, ap, arith}
+use Rattle.std.proofs.Common.{◌≡◌, ℕ, zero, suc, ◌+◌, ◌≤◌, List, [], ◌∷◌, ◌++◌, length, set, take, drop, replicate, Result, Ok, Err, is_ok, IsOk, if◌then◌else◌, refl, ◌∙◌, ap, arith}
 use Rattle.std.proofs.lemmas.List.{map-set}
 use Rattle.clause_defs.specs.Clauses.{Lits}
 use Rattle.chain_check.specs.declared.computed.Span.{Span}

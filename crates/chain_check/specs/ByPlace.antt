@@ -1,5 +1,5 @@
 -- Lists of literals by places, kept as parts of one list.
-use Rattle.std.specs.Prelude.{◌≡◌, ℕ, ◌+◌, ◌^◌, ◌<◌, ◌≤◌, List, [], length, get_or, map, take, drop}
+use Rattle.std.specs.Prelude.{ℕ, ◌+◌, ◌^◌, ◌<◌, ◌≤◌, List, get_or, map, take, drop}
 use Rattle.clause_defs.specs.Clauses.{Lits}
 use Rattle.chain_check.specs.declared.computed.Span.{Span}
 

@@ -1,8 +1,8 @@
 -- What a checker knows of the clauses of a trace.
-use Rattle.std.specs.Prelude.{◌≡◌, ℕ, zero, suc, ◌+◌, ◌<◌, ◌≤◌, List, [], ◌∷◌, length, get_or, Option, Some, None}
+use Rattle.std.specs.Prelude.{◌≡◌, ℕ, zero, suc, ◌+◌, ◌<◌, ◌≤◌, List, [], ◌∷◌, length, get_or, map, Option, Some, None}
 use Rattle.clause_defs.specs.Literals.{Literal}
 use Rattle.clause_defs.specs.Clauses.{Lits, Has, SameSet}
-use Rattle.clause_defs.specs.Traces.{Entry, stated_at, lits_at}
+use Rattle.clause_defs.specs.Traces.{Entry, stated_at, lits_at, antecedents_at}
 use Rattle.clause_defs.specs.TraceClauses.{LitsOf}
 
 abbrev pub stated_else : Lits → Lits → Lits
@@ -12,6 +12,10 @@ stated_else (l ∷ ls) computed = l ∷ ls
 -- the literals that a checker takes for those of clause p: the stated ones, or else the computed ones
 abbrev pub literals_at : List Entry → List Lits → ℕ → Lits
 literals_at t computed p = stated_else (lits_at t p) (get_or computed p [])
+
+-- the literals that are taken for those of the antecedents of clause k
+abbrev pub antecedents_known : List Entry → List Lits → ℕ → List Lits
+antecedents_known t computed k = map (literals_at t computed) (antecedents_at t k)
 
 -- the clause is there, and these are its literals, each once
 abbrev pub AreLiteralsOf : Option Lits → Lits → Type 0
@@ -26,6 +30,7 @@ AreOver variables c = (l : Literal) → Has c l → (1 ≤ l.variable) × (l.var
 pub record IsKnownBefore (t : List Entry) (variables : ℕ) (computed : List Lits) (k : ℕ) : Type 0 where
   pub literals : (p : ℕ) → p < k → AreLiteralsOf (LitsOf t p) (literals_at t computed p)
   pub over : (p : ℕ) → AreOver variables (literals_at t computed p)
+  pub later : (p : ℕ) → k ≤ p → get_or computed p [] ≡ []
 
 abbrev pub sign_count : Option Lits → ℕ
 sign_count None = 1

@@ -2,3 +2,4 @@ pub mod Marks
 pub mod Steps
 pub mod ByPlace
 pub mod Known
+pub mod Rooms

@@ -62,6 +62,14 @@ impl Computed {
         part(&self.spans, &self.lits, p)
     }
 
+    /// Where the literals stand of each place, and all literals.
+    pub(crate) fn parts(&self) -> (&[Span], &[Lit])
+        ensures clauses { parts_of result.1.now result.0.now ≡ self.now.clauses }
+        ensures within { EachEndsBy (length result.1.now) result.0.now }
+    {
+        (&self.spans, &self.lits)
+    }
+
     /// Puts the literals of a clause at its place. Takes no memory.
     pub fn put(&mut self, p: u32, lits: &[Lit])
         requires within { p < length self.old.clauses }

@@ -164,7 +164,8 @@ impl Marks {
 
     /// How many literals the running clause has.
     pub(crate) fn len(&self) -> usize
-        ensures { result ≡ length self.now.running }
+        ensures len { result ≡ length self.now.running }
+        ensures ordered { IsOrdered self.now.running }
     {
         self.count
     }

@@ -1,4 +1,4 @@
-use Rattle.std.proofs.Common.{◌≡◌, length, replicate, ap, sym, ◌∙◌, rules}
+use Rattle.std.proofs.Common.{rules}
 use Rattle.chain_check.proofs.PartLemmas.{parts_none}
 use Rattle.chain_check.proofs.computed.Computed.new.Goals as goal
 

@@ -1,4 +1,4 @@
-use Rattle.std.proofs.Common.{◌≡◌, ◌+◌, ◌≤◌, [], length, set, ap, sym, ◌∙◌, arith, vec_len, vec_capacity}
+use Rattle.std.proofs.Common.{◌+◌, ◌≤◌, length, set, ap, ◌∙◌, arith, vec_len, vec_capacity}
 use Rattle.chain_check.specs.ByPlace.{ClausesByPlace}
 use Rattle.chain_check.proofs.PartLemmas.{after_ok, parts_put}
 use Rattle.chain_check.proofs.computed.Computed.put.Goals as goal

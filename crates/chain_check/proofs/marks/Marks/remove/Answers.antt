@@ -1,4 +1,4 @@
-use Rattle.std.proofs.Common.{refl, sym, ◌∙◌, ap, arith}
+use Rattle.std.proofs.Common.{refl, ap, arith}
 use Rattle.chain_check.specs.Marks.{Marked}
 use Rattle.chain_check.proofs.KeptLemmas.{some_counted, kept_removed, length-removed, Has-removed, fresh_removed, found, not_running, Has-absent}
 use Rattle.chain_check.proofs.marks.Marks.remove.Goals as goal

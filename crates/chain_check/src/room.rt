@@ -1,0 +1,189 @@
+ghost use Rattle.std.specs.Prelude.{◌≡◌, ◌≢◌, ℕ, ◌+◌, ◌*◌, ◌<◌, ◌≤◌, ◌↔◌, List, [], length, min, vec_capacity, None, Ok, IfOk, IfSome, IfNone, IsTrue};
+ghost use Rattle.clause_defs.specs.Literals.{Literal};
+ghost use Rattle.clause_defs.specs.Clauses.{Lits, Has, SameSet, WithinVariables};
+ghost use Rattle.clause_defs.specs.Resolution.{Resolves};
+ghost use Rattle.clause_defs.specs.Traces.{IsTrace, IsCompactAt, index_at, lits_at, antecedents_at};
+ghost use Rattle.clause_defs.specs.Verdicts.{ChainFault, ClauseFault, EndsEmpty};
+ghost use Rattle.clause_defs.specs.declared.verdict.ChainError.{ChainError};
+ghost use Rattle.clause_defs.specs.declared.verdict.Verdict.{Verdict};
+ghost use Rattle.chain_check.specs.ByPlace.{parts_of, EachEndsBy};
+ghost use Rattle.chain_check.specs.Known.{literals_at, antecedents_known, signs_before};
+ghost use Rattle.chain_check.specs.Rooms.{IsRoomFor, KnowsBefore};
+
+use crate::chain::{follow, known_literals};
+use crate::computed::{Computed, Span};
+use crate::marks::Marks;
+use clause_defs::{ChainError, Verdict};
+use pch_base::{Lit, NoMemory};
+use sat_values::{ClauseSet, Trace};
+use std::alloc::Global;
+
+/// All the memory that a check of a trace needs: for the running clause of a chain, and for the clauses
+/// whose literals the trace doesn't state.
+///
+/// Where G is the greatest variable of the trace, n the number of its clauses and S of those with the
+/// sign, a room takes `8 * (G + 1)` bytes for marks, `8 * G` for a clause, `4 * min(limit, 2 * G * S)`
+/// for the literals of computed clauses and, if S isn't 0, `8 * n` for their places. What isn't used of
+/// the two parts for literals isn't touched.
+#[derive(Drop)]
+pub struct Room {
+    limit: u32,
+    marks: Marks,
+    clause: Vec<Lit>,
+    computed: Computed,
+}
+
+impl Room {
+    /// The room for this trace, in which the clauses with the sign may have `limit` literals together.
+    pub fn open(alloc: Global, t: &Trace, limit: u32) -> Result<Room, NoMemory>
+        ensures room { IfOk result (λ r. IsRoomFor t.now r) }
+        ensures limit { IfOk result (λ r. r.limit ≡ limit) }
+    {
+        let variables = t.greatest_variable();
+        let signs = signs(t);
+        let places = if signs > 0 { t.len() } else { 0 };
+        Ok(Room {
+            limit,
+            marks: Marks::new(alloc, variables)?,
+            clause: Vec::with_capacity(alloc, 2 * variables as usize)?,
+            computed: Computed::new(alloc, places, most_literals(variables, signs, limit))?,
+        })
+    }
+
+    /// Takes out what an earlier check left.
+    pub(crate) fn clear(&mut self, t: &Trace)
+        requires room { IsRoomFor t.now self.old }
+        ensures room { IsRoomFor t.now self.new }
+        ensures limit { self.new.limit ≡ self.old.limit }
+        ensures knows { KnowsBefore t.now self.new 0 }
+    {
+        self.computed.clear();
+    }
+
+    /// The fault of the clause at place `k`, counted from 0, which has antecedents, if it has one.
+    pub(crate) fn derived_fault(&mut self, t: &Trace, k: u32) -> Option<Verdict>
+        requires within { k < length t.now }
+        requires derived { antecedents_at t.now k ≢ [] }
+        requires room { IsRoomFor t.now self.old }
+        requires knows { KnowsBefore t.now self.old k }
+        ensures room { IsRoomFor t.now self.new }
+        ensures limit { self.new.limit ≡ self.old.limit }
+        ensures fault { (f : List Lits) → ClauseFault f t.now self.old.limit k result }
+        ensures knows { IfNone result (KnowsBefore t.now self.new (k + 1)) }
+    {
+        let (spans, lits) = self.computed.parts();
+        if let Err(fault) = follow(t, spans, lits, k, &mut self.marks) {
+            return Some(Verdict::Chain(fault));
+        }
+        if t.is_compact(k) {
+            self.keep(t, k)
+        } else {
+            differs(t, k, &mut self.marks)
+        }
+    }
+
+    /// Keeps what the chain of the clause at place `k`, which has the sign, came to, if there is leave.
+    fn keep(&mut self, t: &Trace, k: u32) -> Option<Verdict>
+        requires within { k < length t.now }
+        requires derived { antecedents_at t.now k ≢ [] }
+        requires sign { IsCompactAt t.now k }
+        requires trace { IsTrace t.now }
+        requires room { IsRoomFor t.now self.old }
+        requires knows { KnowsBefore t.now self.old k }
+        requires between_steps { self.old.marks.fresh ≡ [] }
+        requires end { ChainFault (index_at t.now k) None
+            (antecedents_known t.now self.old.computed.clauses k) (Ok tt) }
+        requires clause { Resolves (antecedents_known t.now self.old.computed.clauses k) self.old.marks.running }
+        ensures room { IsRoomFor t.now self.new }
+        ensures limit { self.new.limit ≡ self.old.limit }
+        ensures fault { (f : List Lits) → ClauseFault f t.now self.old.limit k result }
+        ensures knows { IfNone result (KnowsBefore t.now self.new (k + 1)) }
+    {
+        let literals = u64::from(self.computed.total()) + self.marks.len() as u64;
+        if literals > u64::from(self.limit) {
+            return Some(Verdict::TooWide { clause: t.index(k) });
+        }
+        self.clause.clear();
+        let (spans, lits) = self.computed.parts();
+        gather(t, spans, lits, k, &mut self.marks, &mut self.clause);
+        self.computed.put(k, &self.clause);
+        None
+    }
+
+    /// Whether the trace has a clause and its last one is empty.
+    pub(crate) fn ends_empty(&self, t: &Trace) -> bool
+        requires { KnowsBefore t.now self.now (length t.now) }
+        ensures { IsTrue result ↔ EndsEmpty t.now }
+    {
+        let len = t.len();
+        let (spans, lits) = self.computed.parts();
+        len > 0 && known_literals(t, spans, lits, len - 1).is_empty()
+    }
+}
+
+/// How many clauses of the trace have the sign.
+fn signs(t: &Trace) -> u32
+    ensures signs { result ≡ signs_before t.now (length t.now) }
+    ensures trace { IsTrace t.now }
+{
+    let mut signs = 0;
+    for k in 0..t.len() {
+        if t.is_compact(k) {
+            signs += 1;
+        }
+    }
+    signs
+}
+
+/// How many literals so many clauses over so many variables may have together, but at most the limit.
+fn most_literals(variables: u32, clauses: u32, limit: u32) -> u32
+    ensures { result ≡ min limit (2 * variables * clauses) }
+{
+    let all = (2 * u64::from(variables)).saturating_mul(u64::from(clauses));
+    if all < u64::from(limit) {
+        all as u32
+    } else {
+        limit
+    }
+}
+
+/// The fault of a clause with stated literals whose chain came to the running clause.
+fn differs(t: &Trace, k: u32, m: &mut Marks) -> Option<Verdict>
+    requires within { k < length t.now }
+    requires covered { WithinVariables m.old.variables (lits_at t.now k) }
+    requires between_steps { m.old.fresh ≡ [] }
+    ensures same { IfNone result (SameSet m.old.running (lits_at t.now k)) }
+    ensures other { IfSome result (λ v. (v ≡ Verdict.Chain (ChainError.Other (index_at t.now k)))
+        × (SameSet m.old.running (lits_at t.now k) → ⊥)) }
+    ensures variables { m.new.variables ≡ m.old.variables }
+{
+    if m.comes_to(t.lits(k)) {
+        return None;
+    }
+    Some(Verdict::Chain(ChainError::Other { clause: t.index(k) }))
+}
+
+/// Moves the running clause, whose literals are all of antecedents of the clause at place `k`, into an
+/// empty list with room for it.
+fn gather(t: &Trace, spans: &[Span], lits: &[Lit], k: u32, m: &mut Marks, list: &mut Vec<Lit>)
+    requires within { k < length t.now }
+    requires parts { EachEndsBy (length lits.now) spans.now }
+    requires covered { (p : ℕ)
+        → WithinVariables m.old.variables (literals_at t.now (parts_of lits.now spans.now) p) }
+    requires between_steps { m.old.fresh ≡ [] }
+    requires antecedents { (l : Literal) → Has m.old.running l → (p : ℕ)
+        × Has (antecedents_at t.now k) p × Has (literals_at t.now (parts_of lits.now spans.now) p) l }
+    requires empty { list.old.items ≡ [] }
+    requires room { length m.old.running ≤ vec_capacity list.old }
+    ensures same { SameSet list.new.items m.old.running }
+    ensures all { length list.new.items ≡ length m.old.running }
+    ensures variables { m.new.variables ≡ m.old.variables }
+    ensures room { vec_capacity list.new ≡ vec_capacity list.old }
+{
+    for &p in t.antecedents(k) {
+        if m.is_empty() {
+            return;
+        }
+        m.move_to(known_literals(t, spans, lits, p), list);
+    }
+}

@@ -13,3 +13,6 @@ mod mark;
 pub use error::BlifError;
 pub use kind::LineKind;
 pub use mark::{MAX_BYTES, MAX_PORTS, MAX_SIGNALS, Mark};
+
+#[cfg(test)]
+mod tests;

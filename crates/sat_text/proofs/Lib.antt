@@ -1,5 +1,5 @@
-mod Judging
-mod FirstWord
-mod ClauseByClause
-mod Pieces
 mod ClimbingLemmas
+mod FirstWord
+mod Judging
+mod Pieces
+mod TokenSteps

@@ -3,8 +3,8 @@ use Rattle.std.proofs.Common.{◌≡◌, ℕ, zero, suc, ◌+◌, ◌<◌, List,
 use Rattle.std.specs.List.{flat_map}
 use Rattle.std.proofs.lemmas.List.{drop_more}
 use Rattle.clause_defs.specs.Clauses.{Has, Lits}
-use Rattle.clause_defs.specs.Traces.{Entry, index_at, lits_at, antecedents_at, index_of, lits_of, antecedents_of}
-use Rattle.sat_text.specs.Printed.{trace_line, entry_text, line_of}
+use Rattle.clause_defs.specs.Traces.{Entry, index_at, stated_at, antecedents_at, index_of, stated_of, antecedents_of}
+use Rattle.sat_text_defs.specs.Printed.{trace_line, entry_text, line_of}
 
 piece : {X : Type 0} (f : X → List ℕ) (xs rest : List X) (x : X) (out next whole : List ℕ) → xs ≡ x ∷ rest → next ≡ out ++ f x
     → out ++ flat_map f xs ≡ whole → next ++ flat_map f rest ≡ whole
@@ -27,12 +27,12 @@ at_place (x ∷ xs) zero h = (x, refl, refl)
 at_place (x ∷ xs) (suc k) h = let rest = at_place xs k (omega arith) in (rest.0, rest.1, rest.2)
 
 -- one more clause of the trace was printed
-pub entry_more : (t : List Entry) (k : ℕ) (out next whole : List ℕ) → k < length t → next ≡ out ++ entry_text t (index_at t k) (lits_at t k) (antecedents_at t k)
+pub entry_more : (t : List Entry) (k : ℕ) (out next whole : List ℕ) → k < length t → next ≡ out ++ entry_text t (index_at t k) (stated_at t k) (antecedents_at t k)
     → out ++ flat_map (trace_line t) (drop k t) ≡ whole → next ++ flat_map (trace_line t) (drop (k + 1) t) ≡ whole
 entry_more t k out next whole h n so_far =
     let e = at_place t k h in
-    let same : entry_text t (index_at t k) (lits_at t k) (antecedents_at t k) ≡ trace_line t e.0 =
-    ap (λ o. entry_text t (index_of o) (lits_of o) (antecedents_of o)) e.2 in
+    let same : entry_text t (index_at t k) (stated_at t k) (antecedents_at t k) ≡ trace_line t e.0 =
+    ap (λ o. entry_text t (index_of o) (stated_of o) (antecedents_of o)) e.2 in
     rw add-one (piece (trace_line t) (drop k t) (drop (suc k) t) e.0 out next whole e.1 (n ∙ ap (λ (l : List ℕ). out ++ l) same) so_far)
 
 -- one more clause of the list was printed

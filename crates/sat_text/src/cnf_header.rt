@@ -2,13 +2,13 @@ ghost use Rattle.std.specs.Prelude.{◌≡◌, ◌+◌, ◌≤◌, true, [], ◌
 ghost use Rattle.sat_text_defs.specs.CnfText.{line_end};
 ghost use Rattle.sat_text_defs.specs.CnfReading.{number_before, header_in, same_word};
 ghost use Rattle.sat_scan.specs.Scan.{word_at, behind_word_at, cnf_tokens_from, IsAtCnfWord};
-ghost use Rattle.sat_text.specs.Answers.{GivesCnf};
+ghost use Rattle.text_defs.specs.Memory.{Gives};
+ghost use Rattle.sat_text_defs.specs.declared.errors.CnfError.TheVariants.{NoMemory};
 ghost use Rattle.sat_text.specs.Header.{header_at};
 
-use crate::errors::CnfError;
 use clause_defs::{MAX_CLAUSES, MAX_VARIABLE};
 use sat_scan::{is_separator, next_cnf_word, number_at};
-use sat_text_defs::MAX_CNF_BYTES;
+use sat_text_defs::{CnfError, MAX_CNF_BYTES};
 
 /// The first line feed from `from` on, or the end of the text.
 fn end_of_line(text: &[u8], from: usize) -> usize
@@ -46,7 +46,7 @@ fn number_on_line(text: &[u8], at: usize, line: usize, max: u32) -> Result<(u32,
     requires stands { IsAtCnfWord at text.now }
     requires short { length text.now ≤ MAX_CNF_BYTES }
     requires digits { 9 ≤ max }
-    ensures exact { GivesCnf (λ n. (n.0, cnf_tokens_from n.1 text.now)) result (number_before (length text.now) line max (cnf_tokens_from at text.now)) }
+    ensures exact { Gives NoMemory (λ n. (n.0, cnf_tokens_from n.1 text.now)) result (number_before (length text.now) line max (cnf_tokens_from at text.now)) }
     ensures stands { IfOk result (λ n. IsAtCnfWord n.1 text.now) }
 {
     if at >= line {
@@ -70,7 +70,7 @@ pub struct HeaderEnd {
 pub fn read_header(text: &[u8], at: usize) -> Result<HeaderEnd, CnfError>
     requires stands { IsAtCnfWord at text.now }
     requires short { length text.now ≤ MAX_CNF_BYTES }
-    ensures exact { GivesCnf (λ h. header_at h text.now) result (header_in (length text.now) (line_end at (drop at text.now)) (cnf_tokens_from at text.now)) }
+    ensures exact { Gives NoMemory (λ h. header_at h text.now) result (header_in (length text.now) (line_end at (drop at text.now)) (cnf_tokens_from at text.now)) }
     ensures within { IfOk result (λ h. h.rest ≤ length text.now) }
 {
     let line = end_of_line(text, at);

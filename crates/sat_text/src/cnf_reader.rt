@@ -2,14 +2,14 @@ ghost use Rattle.std.specs.Prelude.{◌≡◌, ◌≤◌, length, drop};
 ghost use Rattle.sat_text_defs.specs.CnfText.{tokens_of, line_end};
 ghost use Rattle.sat_text_defs.specs.CnfReading.{cnf_in, cnf_from};
 ghost use Rattle.sat_scan.specs.Scan.{cnf_tokens_from, IsAtCnfWord};
-ghost use Rattle.sat_text.specs.Answers.{GivesCnf};
-ghost use Rattle.sat_text.specs.Values.{formula_of};
+ghost use Rattle.text_defs.specs.Memory.{Gives};
+ghost use Rattle.sat_text_defs.specs.declared.errors.CnfError.TheVariants.{NoMemory};
+ghost use Rattle.sat_values.specs.CnfFormula.{formula_of};
 
 use crate::cnf_clauses::read_clauses;
 use crate::cnf_header::read_header;
-use crate::errors::CnfError;
 use sat_scan::{behind_comment, next_cnf_word};
-use sat_text_defs::MAX_CNF_BYTES;
+use sat_text_defs::{CnfError, MAX_CNF_BYTES};
 use sat_values::{Clauses, Cnf};
 use std::alloc::Global;
 
@@ -25,7 +25,7 @@ fn first_word(text: &[u8]) -> usize
 fn read_from(alloc: Global, text: &[u8], first: usize) -> Result<Cnf, CnfError>
     requires stands { IsAtCnfWord first text.now }
     requires short { length text.now ≤ MAX_CNF_BYTES }
-    ensures exact { GivesCnf formula_of result (cnf_from (length text.now) (line_end first (drop first text.now)) (cnf_tokens_from first text.now)) }
+    ensures exact { Gives NoMemory formula_of result (cnf_from (length text.now) (line_end first (drop first text.now)) (cnf_tokens_from first text.now)) }
 {
     let header = read_header(text, first)?;
     let mut clauses = Clauses::new(alloc);
@@ -44,7 +44,7 @@ fn read_from(alloc: Global, text: &[u8], first: usize) -> Result<Cnf, CnfError>
 
 /// Reads a CNF: its value, or its one fault.
 pub fn read_cnf(alloc: Global, b: &[u8]) -> Result<Cnf, CnfError>
-    ensures exact { GivesCnf formula_of result (cnf_in b.now) }
+    ensures exact { Gives NoMemory formula_of result (cnf_in b.now) }
 {
     if b.len() > MAX_CNF_BYTES as usize {
         return Err(CnfError::TooLong);

@@ -6,20 +6,19 @@
 //! antecedents up in `trace_places`.
 #![tactic(auto)]
 
-mod close;
 mod cnf_clauses;
 mod cnf_header;
 mod cnf_reader;
-mod errors;
+mod literal_order;
 mod printing;
 mod trace_clause;
 mod trace_reader;
 
 pub use cnf_reader::read_cnf;
-pub use errors::{CnfError, TraceError};
 pub use printing::{print_cnf, print_trace};
-pub use sat_values::{ClauseSet, Clauses, Cnf, Trace};
-pub use trace_reader::read_trace;
+pub use sat_text_defs::{CnfError, TraceError};
+pub use sat_values::{Cnf, Trace};
+pub use trace_reader::{read_compact, read_trace};
 
 #[cfg(test)]
 mod tests;

@@ -1,9 +1,9 @@
 ghost use Rattle.std.specs.Prelude.{◌≡◌, ℕ, ◌<◌, ◌++◌, length, IfOk, OnOk};
 ghost use Rattle.std.specs.List.{flat_map};
 ghost use Rattle.clause_defs.specs.Clauses.{Has};
-ghost use Rattle.clause_defs.specs.Traces.{index_at, lits_at, antecedents_at};
-ghost use Rattle.sat_text.specs.Printed.{number_text, literal_text, line_of, cnf_text, entry_text, trace_text};
-ghost use Rattle.sat_text.specs.Values.{formula_of};
+ghost use Rattle.clause_defs.specs.Traces.{index_at, stated_at, antecedents_at};
+ghost use Rattle.sat_text_defs.specs.Printed.{number_text, literal_text, line_of, cnf_text, stated_text, entry_text, trace_text};
+ghost use Rattle.sat_values.specs.CnfFormula.{formula_of};
 
 use pch_base::{Lit, NoMemory, print_number};
 use sat_values::{Cnf, Trace};
@@ -24,8 +24,8 @@ pub fn print_cnf(alloc: Global, c: &Cnf) -> Result<Vec<u8>, NoMemory>
     Ok(out)
 }
 
-/// Prints a trace: a line per clause with its index, its literals in order, `0`, the indices of its
-/// antecedents, and `0`.
+/// Prints a trace: a line per clause with its index, its literals in order and `0`, or the sign `*` in
+/// their place, the indices of its antecedents, and `0`.
 pub fn print_trace(alloc: Global, t: &Trace) -> Result<Vec<u8>, NoMemory>
     ensures { IfOk result (λ text. text.items ≡ trace_text t.now) }
 {
@@ -38,13 +38,25 @@ pub fn print_trace(alloc: Global, t: &Trace) -> Result<Vec<u8>, NoMemory>
 
 fn print_entry(t: &Trace, k: u32, out: &mut Vec<u8>) -> Result<(), NoMemory>
     requires { k < length t.now }
-    ensures { OnOk result (out.new.items ≡ out.old.items ++ entry_text t.now (index_at t.now k) (lits_at t.now k) (antecedents_at t.now k)) }
+    ensures { OnOk result (out.new.items ≡ out.old.items ++ entry_text t.now (index_at t.now k) (stated_at t.now k) (antecedents_at t.now k)) }
 {
     print_number_text(t.index(k), out)?;
-    print_lits(t.lits(k), out)?;
-    out.extend_from_slice(b"0 ")?;
+    print_stated(t, k, out)?;
     print_antecedents(t, t.antecedents(k), out)?;
     out.extend_from_slice(b"0\n")?;
+    Ok(())
+}
+
+fn print_stated(t: &Trace, k: u32, out: &mut Vec<u8>) -> Result<(), NoMemory>
+    requires { k < length t.now }
+    ensures { OnOk result (out.new.items ≡ out.old.items ++ stated_text (stated_at t.now k)) }
+{
+    if t.is_compact(k) {
+        out.extend_from_slice(b"* ")?;
+        return Ok(());
+    }
+    print_lits(t.lits(k), out)?;
+    out.extend_from_slice(b"0 ")?;
     Ok(())
 }
 

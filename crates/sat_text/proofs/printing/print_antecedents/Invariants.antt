@@ -1,7 +1,7 @@
 use Rattle.std.proofs.Common.{◌≡◌, ◌++◌, drop}
 use Rattle.std.specs.List.{flat_map}
 use Rattle.clause_defs.specs.Traces.{index_at}
-use Rattle.sat_text.specs.Printed.{number_text}
+use Rattle.sat_text_defs.specs.Printed.{number_text}
 use Rattle.sat_text.proofs.printing.print_antecedents.Given as goal
 
 abbrev pub invariant-loop-place : goal.invariant-loop-place

@@ -1,6 +1,6 @@
 use Rattle.std.proofs.Common.{◌<◌, length, arith}
-use Rattle.sat_text.specs.Printed.{cnf_text}
-use Rattle.sat_text.specs.Values.{formula_of}
+use Rattle.sat_text_defs.specs.Printed.{cnf_text}
+use Rattle.sat_values.specs.CnfFormula.{formula_of}
 use Rattle.sat_text.proofs.Pieces.{line_more}
 use Rattle.sat_text.proofs.printing.print_cnf.Goals as goal
 

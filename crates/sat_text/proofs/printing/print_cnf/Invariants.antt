@@ -1,7 +1,7 @@
 use Rattle.std.proofs.Common.{◌≡◌, ◌++◌, drop}
 use Rattle.std.specs.List.{flat_map}
-use Rattle.sat_text.specs.Printed.{line_of, cnf_text}
-use Rattle.sat_text.specs.Values.{formula_of}
+use Rattle.sat_text_defs.specs.Printed.{line_of, cnf_text}
+use Rattle.sat_values.specs.CnfFormula.{formula_of}
 use Rattle.sat_text.proofs.printing.print_cnf.Given as goal
 
 abbrev pub invariant-loop-k : goal.invariant-loop-k

@@ -1,6 +1,6 @@
 use Rattle.std.proofs.Common.{◌≡◌, ◌++◌, drop}
 use Rattle.std.specs.List.{flat_map}
-use Rattle.sat_text.specs.Printed.{literal_text}
+use Rattle.sat_text_defs.specs.Printed.{literal_text}
 use Rattle.sat_text.proofs.printing.print_lits.Given as goal
 
 abbrev pub invariant-loop-l : goal.invariant-loop-l

@@ -1,5 +1,5 @@
 use Rattle.std.proofs.Common.{◌<◌, length, arith}
-use Rattle.sat_text.specs.Printed.{trace_text}
+use Rattle.sat_text_defs.specs.Printed.{trace_text}
 use Rattle.sat_text.proofs.Pieces.{entry_more}
 use Rattle.sat_text.proofs.printing.print_trace.Goals as goal
 

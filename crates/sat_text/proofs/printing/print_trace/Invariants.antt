@@ -1,6 +1,6 @@
 use Rattle.std.proofs.Common.{◌≡◌, ◌++◌, drop}
 use Rattle.std.specs.List.{flat_map}
-use Rattle.sat_text.specs.Printed.{trace_line, trace_text}
+use Rattle.sat_text_defs.specs.Printed.{trace_line, trace_text}
 use Rattle.sat_text.proofs.printing.print_trace.Given as goal
 
 abbrev pub invariant-loop-k : goal.invariant-loop-k

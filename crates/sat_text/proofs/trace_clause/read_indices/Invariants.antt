@@ -1,15 +1,19 @@
-use Rattle.std.proofs.Common.{length, ◌-◌, ◌≡◌, ◌≤◌, ◌+◌}
-use Rattle.sat_text_defs.specs.TraceReading.{indices_from}
-use Rattle.sat_scan.specs.Scan.{tokens_from, IsAtWord}
+use Rattle.std.proofs.Common.{◌≡◌, ◌-◌, ◌≤◌, ℕ, length, List, Option}
+use Rattle.clause_defs.specs.Clauses.{Lits}
+use Rattle.clause_defs.specs.Traces.{Entry}
+use Rattle.sat_text_defs.specs.TraceReading.{among_antecedents}
+use Rattle.sat_scan.specs.Scan.{IsAtWord}
+use Rattle.sat_text.specs.ReadingSteps.{rest_from}
 use Rattle.sat_text.proofs.trace_clause.read_indices.Given as goal
 
-abbrev pub invariant-loop-number : goal.invariant-loop-number
-invariant-loop-number l = record {
+abbrev pub invariant-loop-from : goal.invariant-loop-from
+invariant-loop-from l = record {
   not_before : l.from ≤ l.at;
-  few : length l.indices.items + l.from ≤ length l.fn.indices.items + l.at;
+  longer : length l.fn.indices.items ≤ length l.indices.items;
   stands : IsAtWord l.at l.text;
-  exact : indices_from (length l.text) l.indices.items (tokens_from l.at l.text) ≡ indices_from (length l.text) l.fn.indices.items (tokens_from l.from l.text);
+  rest : (v i : ℕ) (stated : Option Lits) (t : List Entry) → rest_from v l.text l.from t (among_antecedents i stated l.fn.indices.items)
+      ≡ rest_from v l.text l.at t (among_antecedents i stated l.indices.items);
 }
 
-abbrev pub decreases-loop-number : goal.decreases-loop-number
-decreases-loop-number l = length l.text - l.at
+abbrev pub decreases-loop-from : goal.decreases-loop-from
+decreases-loop-from l = length l.text - l.at

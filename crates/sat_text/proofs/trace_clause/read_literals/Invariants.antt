@@ -1,14 +1,17 @@
-use Rattle.std.proofs.Common.{length, ◌-◌, ◌≡◌, ◌≤◌}
-use Rattle.sat_text_defs.specs.TraceReading.{literals_from}
-use Rattle.sat_scan.specs.Scan.{tokens_from, IsAtWord}
+use Rattle.std.proofs.Common.{◌≡◌, ◌-◌, ◌≤◌, ℕ, List, length}
+use Rattle.clause_defs.specs.Traces.{Entry}
+use Rattle.sat_text_defs.specs.TraceReading.{among_lits}
+use Rattle.sat_scan.specs.Scan.{IsAtWord}
+use Rattle.sat_text.specs.ReadingSteps.{rest_from}
 use Rattle.sat_text.proofs.trace_clause.read_literals.Given as goal
 
-abbrev pub invariant-loop-word : goal.invariant-loop-word
-invariant-loop-word l = record {
-  not_before : l.from ≤ l.at;
+abbrev pub invariant-loop-first : goal.invariant-loop-first
+invariant-loop-first l = record {
+  not_before : l.first ≤ l.at;
   stands : IsAtWord l.at l.text;
-  exact : literals_from (length l.text) l.lits.items (tokens_from l.at l.text) ≡ literals_from (length l.text) l.fn.lits.items (tokens_from l.from l.text);
+  rest : (v i : ℕ) (t : List Entry) → rest_from v l.text l.first t (among_lits i l.fn.lits.items)
+      ≡ rest_from v l.text l.at t (among_lits i l.lits.items);
 }
 
-abbrev pub decreases-loop-word : goal.decreases-loop-word
-decreases-loop-word l = length l.text - l.at
+abbrev pub decreases-loop-first : goal.decreases-loop-first
+decreases-loop-first l = length l.text - l.at

@@ -5,7 +5,7 @@ ghost use Rattle.sat_text.specs.Climbing.{climbs_from};
 use pch_base::{Lit, order_literals};
 
 /// Puts the literals of a clause that was read in their order, and leaves out repeated ones.
-pub fn close_clause(lits: &mut Vec<Lit>)
+pub fn order_clause(lits: &mut Vec<Lit>)
     ensures clause { lits.new.items ≡ clause_of lits.old.items }
     ensures ordered { IsOrdered lits.new.items }
 {

@@ -2,7 +2,7 @@ use Rattle.std.proofs.Common.{◌≡◌, true, sym, ap, ◌∙◌}
 use Rattle.clause_laws.proofs.ClauseOf.{clause_of-ordered}
 use Rattle.sat_text.specs.Climbing.{climbs_from}
 use Rattle.sat_text.proofs.ClimbingLemmas.{climbing_is_ordered}
-use Rattle.sat_text.proofs.close.close_clause.Goals as goal
+use Rattle.sat_text.proofs.literal_order.order_clause.Goals as goal
 
 pub returns-then-climbs-clause-clause : goal.returns-then-climbs-clause-clause
 returns-then-climbs-clause-clause c =

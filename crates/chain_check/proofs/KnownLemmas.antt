@@ -2,7 +2,7 @@
 use Rattle.std.proofs.Common.{◌≡◌, ◌≢◌, ℕ, zero, suc, ◌+◌, ◌*◌, ◌<◌, ◌≤◌, inl, inr, Bool, true, false, if◌then◌else◌, List, [], ◌∷◌, length, get_or, map, set, Option, Some, None, Result, Ok, Err, refl, sym, ◌∙◌, ap, subst, arith, add-one, get_or-set_same, get_or-set_other}
 use Rattle.std.proofs.lemmas.Bool.{cases_order, cases_eq, le-ltb, lt-ltb}
 use Rattle.clause_defs.specs.Literals.{Literal, code}
-use Rattle.clause_defs.specs.Clauses.{Lits, Has, SameSet, IsOrdered}
+use Rattle.clause_defs.specs.Clauses.{Lits, Has, SameSet, IsOrdered, WithinVariables}
 use Rattle.clause_defs.specs.Resolution.{Resolves}
 use Rattle.clause_defs.specs.Traces.{Entry, IsCompactAt, literals_in, stated_at, lits_at, antecedents_at, index_at, AntecedentsAreEarlier}
 use Rattle.clause_defs.specs.TraceClauses.{LitsOf, antecedent_lits, all_given, given_with, given_by, computed_size, computed_before}
@@ -135,18 +135,17 @@ stated_last [] computed e = e
 stated_last (l ∷ ls) computed e = refl
 
 module _ (t : List Entry) (variables : ℕ) (computed : List Lits) (k : ℕ) (known : IsKnownBefore t variables computed k) where
-  pub known_stated : (c : Lits) → stated_at t k ≡ Some c → IsKnownBefore t variables computed (suc k)
-  known_stated c e = record {
+  pub known_stated : (c : Lits) → stated_at t k ≡ Some c → get_or computed k [] ≡ [] → IsKnownBefore t variables computed (suc k)
+  known_stated c e none = record {
     literals = λ p lt. elim (cases_order p k) [
       | inl at ↦ subst (λ q. AreLiteralsOf (LitsOf t q) (literals_at t computed q)) (sym at) here
       | inr other ↦ elim other [ inl below ↦ known.literals p below | inr above ↦ absurd (omega arith) ]
     ];
     over = known.over;
-    later = λ p le. known.later p (omega arith);
   }
     where
       same : literals_at t computed k ≡ c
-      same = stated_last (lits_at t k) (get_or computed k []) (known.later k (omega arith)) ∙ ap literals_in e
+      same = stated_last (lits_at t k) (get_or computed k []) none ∙ ap literals_in e
 
       here : AreLiteralsOf (LitsOf t k) (literals_at t computed k)
       here = subst (λ o. AreLiteralsOf o (literals_at t computed k)) (sym (lits_stated t k c e))
@@ -175,7 +174,6 @@ module _ (t : List Entry) (variables : ℕ) (computed : List Lits) (k : ℕ) (kn
         | inl at ↦ subst (λ q. AreOver variables (literals_at t (set computed k ls) q)) (sym at) (subst (AreOver variables) (sym own_place) over)
         | inr ne ↦ subst (AreOver variables) (sym (other_place p ne)) (known.over p)
       ];
-      later = λ p le. get_or-set_other computed k p ls [] (λ e. omega arith) ∙ known.later p (omega arith);
     }
 
 -- nothing is computed before the first place
@@ -184,7 +182,6 @@ pub known_nothing : (t : List Entry) (variables : ℕ) (computed : List Lits) �
 known_nothing t variables computed none over = record {
   literals = λ p lt. absurd (omega arith);
   over = λ p. subst (AreOver variables) (sym (stated_last (lits_at t p) (get_or computed p []) (none p))) (over p);
-  later = λ p le. none p;
 }
 
 -- ---- how many literals are computed
@@ -232,3 +229,15 @@ pub end_stated : (t : List Entry) (k : ℕ) → stated_at t k ≢ None → (end 
 end_stated t k some end h =
     subst (λ o. ChainFault (index_at t k) o (map (lits_at t) (antecedents_at t k)) end) (sym (there (stated_at t k) some))
     (subst (λ cs. ChainFault (index_at t k) (Some (lits_at t k)) cs end) (antecedents_stated t k) h)
+
+-- fewer clauses are known too
+pub known_earlier : (t : List Entry) (variables : ℕ) (computed : List Lits) (k n : ℕ) → k ≤ n → IsKnownBefore t variables computed n → IsKnownBefore t variables computed k
+known_earlier t variables computed k n le known = record { literals = λ p lt. known.literals p (omega arith); over = known.over }
+
+within_else : (variables : ℕ) (stated computed : Lits) → AreOver variables (stated_else stated computed) → WithinVariables variables stated
+within_else variables [] computed over l h = absurd h
+within_else variables (m ∷ ms) computed over l h = (over l h).1
+
+-- the stated literals are over the variables too
+pub within_stated : (t : List Entry) (variables : ℕ) (computed : List Lits) (k n : ℕ) → IsKnownBefore t variables computed n → WithinVariables variables (lits_at t k)
+within_stated t variables computed k n known = within_else variables (lits_at t k) (get_or computed k []) (known.over k)

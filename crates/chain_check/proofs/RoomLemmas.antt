@@ -1,5 +1,5 @@
 -- What a room knows of the clauses before a place, one clause after another.
-use Rattle.std.proofs.Common.{◌≡◌, ◌≢◌, ℕ, zero, suc, ◌+◌, ◌-◌, ◌*◌, ◌<◌, ◌≤◌, ◌↔◌, ◌⊎◌, inl, inr, List, [], ◌∷◌, length, get_or, set, take, min, Option, Some, None, IfNone, IfSome, refl, sym, ◌∙◌, subst, arith, add-one}
+use Rattle.std.proofs.Common.{◌≡◌, ◌≢◌, ℕ, zero, suc, ◌+◌, ◌-◌, ◌*◌, ◌<◌, ◌≤◌, ◌↔◌, ◌⊎◌, inl, inr, List, [], ◌∷◌, length, get_or, set, take, min, Option, Some, None, IfNone, IfSome, refl, sym, ◌∙◌, subst, arith, add-one, get_or-set_other}
 use Rattle.std.proofs.lemmas.Bool.{cases_lt}
 use Rattle.std.proofs.Math.Nat.{mul-le-mul_left, le-min}
 use Rattle.clause_defs.specs.Literals.{Literal}
@@ -26,6 +26,7 @@ pub knows_same : (t : List Entry) (k : ℕ) (room other : Room) → other.limit 
     → other.computed ≡ room.computed → KnowsBefore t room k → KnowsBefore t other k
 knows_same t k room other limit variables computed knows = record {
   known = subst (λ v. IsKnownBefore t v other.computed.clauses k) (sym variables) (subst (λ c. IsKnownBefore t room.marks.variables c.clauses k) (sym computed) knows.known);
+  later = subst (λ c. (p : ℕ) → k ≤ p → get_or c.clauses p [] ≡ []) (sym computed) knows.later;
   total = subst (λ c. c.total ≡ computed_before t k) (sym computed) knows.total;
   within = subst (λ l. other.computed.total ≤ l) (sym limit) (subst (λ c. c.total ≤ room.limit) (sym computed) knows.within);
   narrow = subst (λ v. other.computed.total ≤ 2 * v * signs_before t k) (sym variables) (subst (λ c. c.total ≤ 2 * room.marks.variables * signs_before t k) (sym computed) knows.narrow);
@@ -34,7 +35,8 @@ knows_same t k room other limit variables computed knows = record {
 -- one more clause with stated literals
 pub knows_stated : (t : List Entry) (k : ℕ) (room : Room) (c : Lits) → stated_at t k ≡ Some c → KnowsBefore t room k → KnowsBefore t room (k + 1)
 knows_stated t k room c e knows = rw add-one (record {
-  known = known_stated t room.marks.variables room.computed.clauses k knows.known c e;
+  known = known_stated t room.marks.variables room.computed.clauses k knows.known c e (knows.later k (omega arith));
+  later = λ p le. knows.later p (omega arith);
   total = knows.total ∙ sym (computed_stated t k c e);
   within = knows.within;
   narrow = subst (λ s. room.computed.total ≤ 2 * room.marks.variables * s) (sym (signs_stated t k c e)) knows.narrow;
@@ -86,6 +88,8 @@ module _ (t : List Entry) (k : ℕ) (room : Room) (is : IsTrace t) (within : k <
           (known_computed t room.marks.variables room.computed.clauses k knows.known ls s
           (lits_computed [] t 0 k room.marks.variables room.computed.clauses is.earlier knows.known (is.derived k within sign) s chain ordered sign)
           same long (λ l h. chain_over l ((same l).0 h)) sign (for.places k sign)));
+      later = subst (λ c. (p : ℕ) → suc k ≤ p → get_or c p [] ≡ []) (sym clauses)
+          (λ p le. get_or-set_other room.computed.clauses k p ls [] (λ e. omega arith) ∙ knows.later p (omega arith));
       total = total ∙ (let more = computed_more [] t 0 k room.marks.variables room.computed.clauses is.earlier knows.known (is.derived k within sign) s chain ordered sign in let before = knows.total in omega arith);
       within = omega arith;
       narrow = subst (λ n. n ≤ 2 * other.marks.variables * signs_before t (suc k)) (sym total) (subst (λ v. room.computed.total + length s ≤ 2 * v * signs_before t (suc k)) (sym variables) total_narrow);

@@ -30,7 +30,6 @@ AreOver variables c = (l : Literal) → Has c l → (1 ≤ l.variable) × (l.var
 pub record IsKnownBefore (t : List Entry) (variables : ℕ) (computed : List Lits) (k : ℕ) : Type 0 where
   pub literals : (p : ℕ) → p < k → AreLiteralsOf (LitsOf t p) (literals_at t computed p)
   pub over : (p : ℕ) → AreOver variables (literals_at t computed p)
-  pub later : (p : ℕ) → k ≤ p → get_or computed p [] ≡ []
 
 abbrev pub sign_count : Option Lits → ℕ
 sign_count None = 1

@@ -16,11 +16,12 @@ mod chain;
 mod computed;
 mod marks;
 mod room;
+mod stated;
 mod trace;
 
 pub use chain::check_chain;
 pub use clause_defs::{ChainError, Verdict};
 pub use computed::Computed;
 pub use marks::Marks;
-pub use room::Room;
+pub use room::{Room, Stop};
 pub use trace::{check_room, check_trace};

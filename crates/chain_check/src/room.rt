@@ -1,19 +1,20 @@
-ghost use Rattle.std.specs.Prelude.{◌≡◌, ◌≢◌, ℕ, ◌+◌, ◌*◌, ◌<◌, ◌≤◌, ◌↔◌, List, [], length, min, vec_capacity, None, Ok, IfOk, IfSome, IfNone, IsTrue};
+ghost use Rattle.std.specs.Prelude.{◌≡◌, ◌≢◌, ℕ, ◌+◌, ◌*◌, ◌<◌, ◌≤◌, ◌↔◌, List, [], length, min, vec_capacity, Some, None, Ok, IfOk, IfSome, IfNone, IsTrue};
 ghost use Rattle.clause_defs.specs.Literals.{Literal};
 ghost use Rattle.clause_defs.specs.Clauses.{Lits, Has, SameSet, WithinVariables};
 ghost use Rattle.clause_defs.specs.Resolution.{Resolves};
-ghost use Rattle.clause_defs.specs.Traces.{IsTrace, IsCompactAt, index_at, lits_at, antecedents_at};
+ghost use Rattle.clause_defs.specs.Traces.{IsTrace, IsCompactAt, stated_at, index_at, lits_at, antecedents_at};
 ghost use Rattle.clause_defs.specs.Verdicts.{ChainFault, ClauseFault, EndsEmpty};
 ghost use Rattle.clause_defs.specs.declared.verdict.ChainError.{ChainError};
 ghost use Rattle.clause_defs.specs.declared.verdict.Verdict.{Verdict};
 ghost use Rattle.chain_check.specs.ByPlace.{parts_of, EachEndsBy};
 ghost use Rattle.chain_check.specs.Known.{literals_at, antecedents_known, signs_before};
-ghost use Rattle.chain_check.specs.Rooms.{IsRoomFor, KnowsBefore};
+ghost use Rattle.chain_check.specs.Rooms.{IsRoomFor, KnowsBefore, StopsAt, SignsAreRight, IsFirstFault};
 
 use crate::chain::{follow, known_literals};
 use crate::computed::{Computed, Span};
 use crate::marks::Marks;
-use clause_defs::{ChainError, Verdict};
+use crate::stated::stated_fault;
+use clause_defs::Verdict;
 use pch_base::{Lit, NoMemory};
 use sat_values::{ClauseSet, Trace};
 use std::alloc::Global;
@@ -31,6 +32,14 @@ pub struct Room {
     marks: Marks,
     clause: Vec<Lit>,
     computed: Computed,
+}
+
+/// Where the computing of the clauses with the sign stopped: at the place of the first faulty one, or at
+/// the end of the trace.
+#[derive(Clone, Copy, Debug)]
+pub struct Stop {
+    pub place: u32,
+    pub fault: Option<Verdict>,
 }
 
 impl Room {
@@ -60,26 +69,117 @@ impl Room {
         self.computed.clear();
     }
 
-    /// The fault of the clause at place `k`, counted from 0, which has antecedents, if it has one.
-    pub(crate) fn derived_fault(&mut self, t: &Trace, k: u32) -> Option<Verdict>
+    /// The fault of the clause at place `k`, counted from 0, which has the sign, if it has one. Else its
+    /// literals are known then.
+    pub(crate) fn compute(&mut self, t: &Trace, k: u32) -> Option<Verdict>
         requires within { k < length t.now }
-        requires derived { antecedents_at t.now k ≢ [] }
+        requires sign { IsCompactAt t.now k }
+        requires trace { IsTrace t.now }
         requires room { IsRoomFor t.now self.old }
         requires knows { KnowsBefore t.now self.old k }
         ensures room { IsRoomFor t.now self.new }
         ensures limit { self.new.limit ≡ self.old.limit }
         ensures fault { (f : List Lits) → ClauseFault f t.now self.old.limit k result }
         ensures knows { IfNone result (KnowsBefore t.now self.new (k + 1)) }
+        ensures still { IfSome result (λ v. KnowsBefore t.now self.new k) }
     {
         let (spans, lits) = self.computed.parts();
         if let Err(fault) = follow(t, spans, lits, k, &mut self.marks) {
             return Some(Verdict::Chain(fault));
         }
-        if t.is_compact(k) {
-            self.keep(t, k)
-        } else {
-            differs(t, k, &mut self.marks)
+        self.keep(t, k)
+    }
+
+    /// The fault of the clause at place `k`, counted from 0, whose literals are stated, if it has one.
+    pub(crate) fn stated_fault(&mut self, f: &ClauseSet, t: &Trace, k: u32) -> Option<Verdict>
+        requires within { k < length t.now }
+        requires trace { IsTrace t.now }
+        requires stated { stated_at t.now k ≢ None }
+        requires room { IsRoomFor t.now self.old }
+        requires knows { KnowsBefore t.now self.old k }
+        ensures room { IsRoomFor t.now self.new }
+        ensures limit { self.new.limit ≡ self.old.limit }
+        ensures fault { ClauseFault f.now.clauses t.now self.old.limit k result }
+        ensures knows { KnowsBefore t.now self.new (k + 1) }
+    {
+        let (spans, lits) = self.computed.parts();
+        stated_fault(f, t, spans, lits, k, &mut self.marks)
+    }
+
+    /// Computes the clauses with the sign, in the order of the trace, up to the first faulty one.
+    pub fn compute_all(&mut self, t: &Trace) -> Stop
+        requires room { IsRoomFor t.now self.old }
+        ensures room { IsRoomFor t.now self.new }
+        ensures limit { self.new.limit ≡ self.old.limit }
+        ensures stop { StopsAt t.now self.old.limit result.place result.fault }
+        ensures right { SignsAreRight t.now self.old.limit result.place }
+        ensures knows { KnowsBefore t.now self.new result.place }
+        ensures within { result.place ≤ length t.now }
+    {
+        self.clear(t);
+        for k in 0..t.len() {
+            if let Some(fault) = self.compute_at(t, k) {
+                return Stop {
+                    place: k,
+                    fault: Some(fault),
+                };
+            }
         }
+        Stop {
+            place: t.len(),
+            fault: None,
+        }
+    }
+
+    /// Computes the clause at place `k`, counted from 0, if it has the sign.
+    fn compute_at(&mut self, t: &Trace, k: u32) -> Option<Verdict>
+        requires within { k < length t.now }
+        requires trace { IsTrace t.now }
+        requires room { IsRoomFor t.now self.old }
+        requires knows { KnowsBefore t.now self.old k }
+        ensures room { IsRoomFor t.now self.new }
+        ensures limit { self.new.limit ≡ self.old.limit }
+        ensures right { IfNone result
+            (IsCompactAt t.now k → (f : List Lits) → ClauseFault f t.now self.old.limit k None) }
+        ensures fault { IfSome result (λ v. (f : List Lits) → ClauseFault f t.now self.old.limit k (Some v)) }
+        ensures knows { IfNone result (KnowsBefore t.now self.new (k + 1)) }
+        ensures still { IfSome result (λ v. KnowsBefore t.now self.new k) }
+    {
+        if t.is_compact(k) {
+            self.compute(t, k)
+        } else {
+            None
+        }
+    }
+
+    /// The fault of the first faulty clause at the places from `from` to before `to`, where the clauses
+    /// with the sign are known and right.
+    pub fn first_fault(
+        &self,
+        f: &ClauseSet,
+        t: &Trace,
+        from: u32,
+        to: u32,
+        m: &mut Marks,
+    ) -> Option<Verdict>
+        requires order { from ≤ to }
+        requires within { to ≤ length t.now }
+        requires knows { KnowsBefore t.now self.now to }
+        requires right { SignsAreRight t.now self.now.limit to }
+        requires covered { m.old.variables ≡ self.now.marks.variables }
+        ensures fault { IsFirstFault f.now.clauses t.now self.now.limit from to result }
+        ensures variables { m.new.variables ≡ m.old.variables }
+    {
+        let (spans, lits) = self.computed.parts();
+        let _len = t.len();
+        for k in from..to {
+            if !t.is_compact(k)
+                && let Some(fault) = stated_fault(f, t, spans, lits, k, m)
+            {
+                return Some(fault);
+            }
+        }
+        None
     }
 
     /// Keeps what the chain of the clause at place `k`, which has the sign, came to, if there is leave.
@@ -98,6 +198,7 @@ impl Room {
         ensures limit { self.new.limit ≡ self.old.limit }
         ensures fault { (f : List Lits) → ClauseFault f t.now self.old.limit k result }
         ensures knows { IfNone result (KnowsBefore t.now self.new (k + 1)) }
+        ensures still { IfSome result (λ v. KnowsBefore t.now self.new k) }
     {
         let literals = u64::from(self.computed.total()) + self.marks.len() as u64;
         if literals > u64::from(self.limit) {
@@ -145,22 +246,6 @@ fn most_literals(variables: u32, clauses: u32, limit: u32) -> u32
     } else {
         limit
     }
-}
-
-/// The fault of a clause with stated literals whose chain came to the running clause.
-fn differs(t: &Trace, k: u32, m: &mut Marks) -> Option<Verdict>
-    requires within { k < length t.now }
-    requires covered { WithinVariables m.old.variables (lits_at t.now k) }
-    requires between_steps { m.old.fresh ≡ [] }
-    ensures same { IfNone result (SameSet m.old.running (lits_at t.now k)) }
-    ensures other { IfSome result (λ v. (v ≡ Verdict.Chain (ChainError.Other (index_at t.now k)))
-        × (SameSet m.old.running (lits_at t.now k) → ⊥)) }
-    ensures variables { m.new.variables ≡ m.old.variables }
-{
-    if m.comes_to(t.lits(k)) {
-        return None;
-    }
-    Some(Verdict::Chain(ChainError::Other { clause: t.index(k) }))
 }
 
 /// Moves the running clause, whose literals are all of antecedents of the clause at place `k`, into an

@@ -59,12 +59,8 @@ fn clause_fault(f: &ClauseSet, t: &Trace, k: u32, room: &mut Room) -> Option<Ver
     ensures room { IsRoomFor t.now room.new }
     ensures limit { room.new.limit ≡ room.old.limit }
 {
-    if !t.antecedents(k).is_empty() {
-        return room.derived_fault(t, k);
+    if t.is_compact(k) {
+        return room.compute(t, k);
     }
-    if f.has(t.lits(k)) {
-        None
-    } else {
-        Some(Verdict::NotOriginal { clause: t.index(k) })
-    }
+    room.stated_fault(f, t, k)
 }

@@ -24,6 +24,7 @@ pub record Draft : Type 0 where
 abbrev pub start : Draft
 start = record { model = []; inputs = []; outputs = []; covers = []; current = None; begun = false; ended = false }
 
+-- all covers, the open one last
 abbrev pub all_covers : Draft → List CoverValue
 all_covers d = d.covers ++ option_to_list d.current
 
@@ -31,6 +32,7 @@ all_covers d = d.covers ++ option_to_list d.current
 abbrev pub signals : Draft → List (List ℕ)
 signals d = signals_of d.inputs (all_covers d)
 
+-- how many inputs and covers there are
 abbrev pub signal_count : Draft → ℕ
 signal_count d = length d.inputs + length (all_covers d)
 
@@ -38,5 +40,6 @@ signal_count d = length d.inputs + length (all_covers d)
 abbrev pub closed : Draft → Draft
 closed d = record d { covers = all_covers d; current = None }
 
+-- the design that was read
 abbrev pub value_of : Draft → BlifValue
 value_of d = record { model = d.model; inputs = d.inputs; outputs = d.outputs; covers = all_covers d }

@@ -27,6 +27,7 @@ kind_of word =
 
 -- ---- the names of a line, from the left
 
+-- one input more
 abbrev pub with_input : ℕ → Draft → List ℕ → Result Draft BlifError
 with_input at d name =
     if is_among name (signals d) then Err (DoubleDriven at)
@@ -34,10 +35,12 @@ with_input at d name =
     then Ok (record d { inputs = d.inputs ++ name ∷ [] })
     else Err (Limit at))
 
+-- these inputs more, from the left
 abbrev pub with_inputs : ℕ → Draft → List (List ℕ) → Result Draft BlifError
 with_inputs at d [] = Ok d
 with_inputs at d (name ∷ names) = with_input at d name >>= λ e. with_inputs at e names
 
+-- one output more
 abbrev pub with_output : ℕ → Draft → List ℕ → Result Draft BlifError
 with_output at d name =
     if is_among name d.outputs then Err (RepeatedOutput at)
@@ -45,6 +48,7 @@ with_output at d name =
     then Ok (record d { outputs = d.outputs ++ name ∷ [] })
     else Err (Limit at))
 
+-- these outputs more, from the left
 abbrev pub with_outputs : ℕ → Draft → List (List ℕ) → Result Draft BlifError
 with_outputs at d [] = Ok d
 with_outputs at d (name ∷ names) = with_output at d name >>= λ e. with_outputs at e names
@@ -74,6 +78,7 @@ with_names at d names =
     if length names == 0 then Err (Syntax at)
     else with_cover at d (without_last names) (slice_index_or names (length names - 1) [])
 
+-- `.end`, which has no names
 abbrev pub with_end : ℕ → Draft → List (List ℕ) → Result Draft BlifError
 with_end at d names = if length names == 0 then Ok (record d { ended = true }) else Err (Syntax at)
 
@@ -102,6 +107,7 @@ after_end End at = Syntax at
 after_end Other at = Syntax at
 after_end Row at = Syntax at
 
+-- a line with words was there
 abbrev pub begun_with : Draft → Draft
 begun_with d = record d { begun = true }
 
@@ -120,9 +126,11 @@ pub record Statement : Type 0 where
   pub at : ℕ
   pub words : List (List ℕ)
 
+-- the words of a joined line
 abbrev pub statement_of : Line → Statement
 statement_of line = record { at = line.at; words = words line.bytes }
 
+-- the joined lines of a text as their words
 abbrev pub statements : List ℕ → List Statement
 statements text = map statement_of (lines_of text)
 
@@ -131,6 +139,7 @@ abbrev pub with_statements : Draft → List Statement → Result Draft BlifError
 with_statements d [] = Ok d
 with_statements d (s ∷ more) = with_words s.at d s.words >>= λ e. with_statements e more
 
+-- the design at the end of the text, or that it has no outputs
 abbrev pub finished : Draft → Result BlifValue BlifError
 finished d = if length d.outputs == 0 then Err NoOutputs else Ok (value_of d)
 

@@ -3,6 +3,7 @@ use Rattle.std.specs.Prelude.{ℕ, ◌+◌, ◌-◌, Bool, ◌==◌, List, [], �
 use Rattle.std.specs.List.{slice_split, before_first}
 use Rattle.blif_defs.specs.Words.{is_blank, ends_with}
 
+-- a list without its last element
 abbrev pub without_last : {X : Type 0} → List X → List X
 without_last xs = take (length xs - 1) xs
 

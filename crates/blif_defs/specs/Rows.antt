@@ -12,6 +12,7 @@ use Rattle.blif_defs.specs.Values.{CoverValue}
 abbrev pub is_mark : ℕ → Bool
 is_mark b = (b == 48) || (b == 49) || (b == 45)
 
+-- the mark that a byte spells
 abbrev pub mark_of : ℕ → Mark
 mark_of b = if b == 48 then Zero else (if b == 49 then One else Any)
 
@@ -19,6 +20,7 @@ mark_of b = if b == 48 then Zero else (if b == 49 then One else Any)
 abbrev pub is_bit : List ℕ → Bool
 is_bit word = bytes_eq word (48 ∷ []) || bytes_eq word (49 ∷ [])
 
+-- the bit that a word spells
 abbrev pub bit_of : List ℕ → Bool
 bit_of word = bytes_eq word (49 ∷ [])
 
@@ -42,6 +44,7 @@ agrees c on = (length c.rows == 0) || (if on then c.on else not c.on)
 abbrev pub with_row : CoverValue → List ℕ → Bool → CoverValue
 with_row c marks on = record c { on = on; rows = c.rows ++ map mark_of marks ∷ [] }
 
+-- the cover with this row, where it is one and has the output of the rows before it
 abbrev pub row_onto : ℕ → CoverValue → Option (List ℕ × List ℕ) → Result CoverValue BlifError
 row_onto at c None = Err (Syntax at)
 row_onto at c (Some row) =

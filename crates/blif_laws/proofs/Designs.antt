@@ -16,7 +16,8 @@ use Rattle.blif_defs.specs.Values.{CoverValue, IsCover, signals_of}
 use Rattle.blif_defs.specs.Drafts.{Draft, start, closed, all_covers, signals, signal_count, is_among}
 use Rattle.blif_defs.specs.Rows.{row_parts, row_onto, is_row, is_mark, is_bit, agrees, with_row, bit_of, mark_of}
 use Rattle.blif_defs.specs.Grammar.{with_input, with_inputs, with_output, with_outputs, with_cover, with_model, with_names, with_end, with_row_line, with_line, with_words, kind_of, after_end, begun_with}
-use Rattle.blif_laws.proofs.Following.{bind_ok, passed, kept, ok_is}
+use Rattle.text_defs.proofs.StepLemmas.{bind_ok, unless_ok}
+use Rattle.blif_laws.proofs.Following.{passed, ok_is}
 use Rattle.blif_laws.proofs.Sets.{All-append, All-left, All-right, distinct_insert}
 use Rattle.std.proofs.lemmas.List.{length-map}
 use Rattle.blif_defs.specs.Values.{BlifValue, IsBlif}
@@ -38,6 +39,7 @@ pub record IsDraft (d : Draft) : Type 0 where
   pub signals_within : signal_count d ≤ MAX_SIGNALS
   pub signals_differ : IsDistinct bytes_eq (signals d)
 
+-- before the first line all is within the limits
 pub start-IsDraft : IsDraft start
 unfolding IsDistinct
 start-IsDraft = record { model = inl refl; inputs = tt; inputs_within = omega arith; outputs = tt; outputs_within = omega arith; outputs_differ = tt; covers = tt; signals_within = omega arith; signals_differ = tt }
@@ -56,14 +58,16 @@ moved d covers current e h = record {
   signals_differ = subst (λ (cs : List CoverValue). IsDistinct bytes_eq (signals_of d.inputs cs)) (sym e) h.signals_differ;
 }
 
+-- and where the open cover is closed
 pub closed-IsDraft : (d : Draft) → IsDraft d → IsDraft (closed d)
 closed-IsDraft d h = moved d (all_covers d) None (append-nil (all_covers d)) h
 
 -- ---- names
 
+-- and with an input more
 pub input-IsDraft : (at : ℕ) (d : Draft) (name : List ℕ) (e : Draft) → IsDraft d → IsWord name → with_input at d name ≡ Ok e → IsDraft e
 input-IsDraft at d name e h w k =
-    let fresh = kept (is_among name (signals d)) (DoubleDriven at) _ e k in
+    let fresh = unless_ok (is_among name (signals d)) (DoubleDriven at) _ e k in
     let room = passed _ (Limit at) (Ok (record d { inputs = d.inputs ++ name ∷ [] })) e fresh.1 in
     let limits = both (nat_lt (length d.inputs) MAX_PORTS) (nat_lt (signal_count d) MAX_SIGNALS) room.0 in
     let len : length (d.inputs ++ name ∷ []) ≡ length d.inputs + 1 = length-append d.inputs (name ∷ []) in
@@ -86,6 +90,7 @@ input-IsDraft at d name e h w k =
     below : (n m : ℕ) → nat_lt n m ≡ true → n < m
     below n m e = grind (arith, nat_tests)
 
+-- and with inputs more
 pub inputs-IsDraft : (at : ℕ) (d : Draft) (names : List (List ℕ)) (e : Draft) → IsDraft d → AllByRecursion IsWord names → with_inputs at d names ≡ Ok e → IsDraft e
 inputs-IsDraft at d [] e h w k = subst IsDraft (ok_is d e k) h
 inputs-IsDraft at d (n ∷ ns) e h w k =
@@ -98,7 +103,7 @@ distinct_push names name d fresh =
 
 output-IsDraft : (at : ℕ) (d : Draft) (name : List ℕ) (e : Draft) → IsDraft d → IsWord name → with_output at d name ≡ Ok e → IsDraft e
 output-IsDraft at d name e h w k =
-    let fresh = kept (is_among name d.outputs) (RepeatedOutput at) _ e k in
+    let fresh = unless_ok (is_among name d.outputs) (RepeatedOutput at) _ e k in
     let room = passed (nat_lt (length d.outputs) MAX_PORTS) (Limit at) (Ok (record d { outputs = d.outputs ++ name ∷ [] })) e fresh.1 in
     let len : length (d.outputs ++ name ∷ []) ≡ length d.outputs + 1 = length-append d.outputs (name ∷ []) in
     let ports : length d.outputs < MAX_PORTS = below (length d.outputs) MAX_PORTS room.0 in
@@ -150,8 +155,8 @@ cover-IsDraft : (at : ℕ) (d : Draft) (ins : List (List ℕ)) (out : List ℕ) 
     → with_cover at d ins out ≡ Ok e → IsDraft e
 cover-IsDraft at d ins out e none h w o k =
     let c : CoverValue = record { ins = ins; out = out; on = true; rows = [] } in
-    let few = kept (nat_lt MAX_PORTS (length ins)) (Limit at) _ e k in
-    let fresh = kept (is_among out (signals d)) (DoubleDriven at) _ e few.1 in
+    let few = unless_ok (nat_lt MAX_PORTS (length ins)) (Limit at) _ e k in
+    let fresh = unless_ok (is_among out (signals d)) (DoubleDriven at) _ e few.1 in
     let room = passed (nat_lt (signal_count d) MAX_SIGNALS) (Limit at) (Ok (record d { current = Some c })) e fresh.1 in
     let all : all_covers d ≡ d.covers = ap (λ (x : Option CoverValue). d.covers ++ option_to_list x) none ∙ append-nil d.covers in
     let within : length ins ≤ MAX_PORTS = not_below MAX_PORTS (length ins) few.0 in
@@ -177,7 +182,7 @@ some_there n e = grind (arith, nat_tests)
 
 names-IsDraft : (at : ℕ) (d : Draft) (names : List (List ℕ)) (e : Draft) → d.current ≡ None → IsDraft d → AllByRecursion IsWord names → with_names at d names ≡ Ok e → IsDraft e
 names-IsDraft at d names e none h w k =
-    let some = kept (length names == 0) (Syntax at) _ e k in
+    let some = unless_ok (length names == 0) (Syntax at) _ e k in
     let parts = split_last names [] (some_there (length names) some.0) in
     let w : AllByRecursion IsWord (without_last names ++ get_or names (length names - 1) [] ∷ []) = subst (λ (ns : List (List ℕ)). AllByRecursion IsWord ns) parts w in
     cover-IsDraft at d (without_last names) (get_or names (length names - 1) []) e none h
@@ -217,7 +222,7 @@ first_name (n ∷ ns) w = inr w.0
 
 model-IsDraft : (at : ℕ) (d : Draft) (names : List (List ℕ)) (e : Draft) → IsDraft d → AllByRecursion IsWord names → with_model at d names ≡ Ok e → IsDraft e
 model-IsDraft at d names e h w k =
-    let early = kept d.begun (Unsupported at) _ e k in
+    let early = unless_ok d.begun (Unsupported at) _ e k in
     let one = passed (nat_le (length names) 1) (Syntax at) (Ok (record d { model = get_or names 0 [] })) e early.1 in
     subst IsDraft (ok_is (record d { model = get_or names 0 [] }) e one.1) (named-IsDraft d (get_or names 0 []) h (first_name names w))
 
@@ -296,7 +301,7 @@ words-IsDraft : (at : ℕ) (d : Draft) (ws : List (List ℕ)) (e : Draft) → Is
 words-IsDraft at d [] e h w k = subst IsDraft (ok_is d e k) h
 words-IsDraft at d (first ∷ names) e h w k =
     let sound = passed (list_all is_sound (first ∷ names)) (Syntax at) _ e k in
-    let early = kept d.ended (after_end (kind_of first) at) _ e sound.1 in
+    let early = unless_ok d.ended (after_end (kind_of first) at) _ e sound.1 in
     let b = bind_ok (with_line (kind_of first) at d first names) (λ x. Ok (begun_with x)) e early.1 in
     let all = sound_words (first ∷ names) w sound.0 in
     subst IsDraft (ok_is (begun_with b.0) e b.2) (marked-IsDraft b.0 true b.0.ended (line-IsDraft (kind_of first) at d first names b.0 h all.1 b.1))

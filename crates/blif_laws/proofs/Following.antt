@@ -6,40 +6,37 @@ use Rattle.blif_defs.specs.declared.mark.TheConstants.{MAX_BYTES}
 use Rattle.blif_defs.specs.declared.error.BlifError.{BlifError}
 use Rattle.blif_defs.specs.declared.error.BlifError.TheVariants.{TooLong, NoOutputs}
 use Rattle.text_defs.specs.Steps.{◌>>=◌}
+use Rattle.text_defs.proofs.StepLemmas.{bind_ok, unless_ok}
 use Rattle.blif_defs.specs.Values.{BlifValue}
 use Rattle.blif_defs.specs.Drafts.{Draft, start, value_of}
 use Rattle.blif_defs.specs.Grammar.{Statement, statements, with_words, with_statements, finished, reading}
 use Rattle.blif_defs.specs.Texts.{Follows, BlifText, IsFirstFaultyLine, LacksOutputs, BlifFault}
-
--- the value of a step that did not fail
-pub bind_ok : {A B : Type 0} (r : Result A BlifError) (f : A → Result B BlifError) (y : B) → (r >>= f) ≡ Ok y → (x : A) × (r ≡ Ok x) × (f x ≡ Ok y)
-bind_ok (Ok x) f y e = (x, refl, e)
-bind_ok (Err d) f y e = absurd cc
 
 -- a test that let a value through
 pub passed : {A : Type 0} (b : Bool) (d : BlifError) (r : Result A BlifError) (y : A) → cond b r (Err d) ≡ Ok y → (b ≡ true) × (r ≡ Ok y)
 passed true d r y e = (refl, e)
 passed false d r y e = absurd cc
 
-pub kept : {A : Type 0} (b : Bool) (d : BlifError) (r : Result A BlifError) (y : A) → cond b (Err d) r ≡ Ok y → (b ≡ false) × (r ≡ Ok y)
-kept true d r y e = absurd cc
-kept false d r y e = (refl, e)
-
+-- a result that is a value
 abbrev pub ok : {A : Type 0} → A → Result A BlifError
 ok x = Ok x
 
+-- equal results have equal values
 pub ok_is : {A : Type 0} (x y : A) → ok x ≡ ok y → x ≡ y
 ok_is x y e = cc
 
+-- a result that is a fault
 abbrev pub err : {A : Type 0} → BlifError → Result A BlifError
 err f = Err f
 
 -- ---- lines without a fault
 
+-- where the lines lead on, reading them gives where they lead
 pub with_statements-Follows : (d : Draft) (ss : List Statement) (e : Draft) → Follows d ss e → with_statements d ss ≡ Ok e
 with_statements-Follows d [] e h = ap ok h
 with_statements-Follows d (s ∷ ss) e h = rw h.1 (with_statements-Follows h.0 ss e h.2)
 
+-- what reading gives is where the lines lead
 pub Follows-with_statements : (d : Draft) (ss : List Statement) (e : Draft) → with_statements d ss ≡ Ok e → Follows d ss e
 Follows-with_statements d [] e h = ok_is d e h
 Follows-with_statements d (s ∷ ss) e h =
@@ -58,6 +55,7 @@ pub record Stops (d : Draft) (ss : List Statement) (fault : BlifError) : Type 0 
   pub follows : Follows d before draft
   pub faulty : with_words line.at draft line.words ≡ Err fault
 
+-- reading stops at a faulty line
 pub with_statements-stops : (d : Draft) (before : List Statement) (line : Statement) (after : List Statement) (draft : Draft) (fault : BlifError)
     → Follows d before draft → with_words line.at draft line.words ≡ Err fault → with_statements d (before ++ line ∷ after) ≡ Err fault
 with_statements-stops d [] line after draft fault h f =
@@ -83,6 +81,7 @@ stops_by (Err f) d s ss fault is e ih =
     let faulty : with_words s.at d s.words ≡ Err fault = cc in
     record { before = []; line = s; after = ss; parts = refl; draft = d; follows = refl; faulty = faulty }
 
+-- a fault is that of a line before which none is faulty
 pub stops : (d : Draft) (ss : List Statement) (fault : BlifError) → with_statements d ss ≡ Err fault → Stops d ss fault
 stops d [] fault e = absurd cc
 stops d (s ∷ ss) fault e = stops_by (with_words s.at d s.words) d s ss fault refl e (λ n h. stops n ss fault h)
@@ -117,7 +116,7 @@ apart b e f = cc
 -- what an answer of `finished` says
 some_outputs : (d : Draft) (m : BlifValue) → finished d ≡ Ok m → (d.outputs ≢ []) × (value_of d ≡ m)
 some_outputs d m h =
-    let k = kept (length d.outputs == 0) NoOutputs (Ok (value_of d)) m h in
+    let k = unless_ok (length d.outputs == 0) NoOutputs (Ok (value_of d)) m h in
     (λ (e : d.outputs ≡ []). apart (length d.outputs == 0) (ap (λ (outputs : List (List ℕ)). length outputs == 0) e) k.0, ok_is (value_of d) m k.1)
 
 no_outputs_by : (outputs : List (List ℕ)) (m : BlifValue) (fault : BlifError) → cond (length outputs == 0) (Err NoOutputs) (ok m) ≡ Err fault → (outputs ≡ []) × (fault ≡ NoOutputs)
@@ -127,12 +126,14 @@ no_outputs_by (o ∷ os) m fault e =
     let e = rw some at e in
     absurd cc
 
+-- the value of a text is read
 pub read_value : (text : List ℕ) (m : BlifValue) → BlifText text m → reading text ≡ Ok m
 read_value text m h =
     reading-short text h.short
     ∙ ap (λ (r : Result Draft BlifError). r >>= λ d. finished d) (with_statements-Follows start (statements text) h.end h.follows)
     ∙ finished-some h.end h.outputs ∙ ap ok h.value
 
+-- what is read is the value of the text
 pub value_read : (text : List ℕ) (m : BlifValue) → reading text ≡ Ok m → BlifText text m
 value_read text m h =
     let p = passed (nat_le (length text) MAX_BYTES) TooLong (with_statements start (statements text) >>= λ d. finished d) m h in
@@ -144,6 +145,7 @@ value_read text m h =
     within : (n : ℕ) → nat_le n MAX_BYTES ≡ true → n ≤ MAX_BYTES
     within n e = grind (arith, nat_tests)
 
+-- the first fault of a text is answered
 pub read_fault : (text : List ℕ) (fault : BlifError) → BlifFault text fault → reading text ≡ Err fault
 read_fault text fault h =
     ⊎_elim (λ (long : (MAX_BYTES < length text) × (fault ≡ TooLong)). reading-long text long.0 ∙ ap err (sym long.1))
@@ -161,6 +163,7 @@ read_fault text fault h =
         ∙ ap (λ (r : Result Draft BlifError). r >>= λ d. finished d) (with_statements-Follows start (statements text) l.0.end l.0.follows)
         ∙ finished-none l.0.end l.0.outputs ∙ ap err (sym l.1)
 
+-- what is answered is the first fault of the text
 pub fault_read : (text : List ℕ) (fault : BlifError) → reading text ≡ Err fault → BlifFault text fault
 fault_read text fault h = by (nat_le (length text) MAX_BYTES) refl h
   where

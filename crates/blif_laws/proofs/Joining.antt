@@ -40,6 +40,7 @@ plain_words-append (b ∷ bs) more =
     rw (plain_words-append bs more, begins-append bs more)
     (words_by-append (is_blank b) (begins_with_token is_blank bs) b (plain_words bs) (plain_words more) (plain_words-some bs))
 
+-- a space parts words
 pub words-append : (line more : List ℕ) → words (line ++ 32 ∷ more) ≡ words line ++ words more
 words-append line more = words-is (line ++ 32 ∷ more) ∙ plain_words-append line more ∙ sym (ap (λ (ws : List (List ℕ)). ws ++ words more) (words-is line) ∙ ap (λ (ws : List (List ℕ)). plain_words line ++ ws) (words-is more))
 
@@ -50,6 +51,7 @@ abbrev pub put_in_front : ℕ → List (List ℕ) → List Statement → List St
 put_in_front first pending [] = record { at = first; words = pending } ∷ []
 put_in_front first pending (s ∷ more) = record { at = first; words = pending ++ s.words } ∷ more
 
+-- the statements of lines, of which the first has this number
 abbrev pub from_line : ℕ → List (List ℕ) → List Statement
 from_line at lines = map statement_of (joined at lines)
 
@@ -63,6 +65,7 @@ last_by : (j : Bool) (first : ℕ) (pending : List (List ℕ)) (at : ℕ) (bytes
 last_by true first pending at bytes = refl
 last_by false first pending at bytes = refl
 
+-- the last line ends what is pending
 pub last_line : (first : ℕ) (pending : List (List ℕ)) (at : ℕ) (line : List ℕ)
     → put_in_front first pending (from_line at (line ∷ [])) ≡ record { at = first; words = pending ++ words (content line) } ∷ []
 last_line first pending at line = last_by (joins line) first pending at (content line)
@@ -80,6 +83,7 @@ nothing_by true at bytes [] = refl
 nothing_by true at bytes (n ∷ ns) = refl
 nothing_by false at bytes after = refl
 
+-- where nothing is pending, the lines are as they are
 pub nothing_in_front : (at : ℕ) (line : List ℕ) (more : List (List ℕ)) → put_in_front at [] (from_line at (line ∷ more)) ≡ from_line at (line ∷ more)
 nothing_in_front at line more = nothing_by (joins line) at (content line) (joined (at + 1) more)
 

@@ -34,6 +34,7 @@ trimmed-sign (c ∷ d ∷ ds) b h = ap (onto_trimmed c) (trimmed-sign (d ∷ ds)
 abbrev pub bytes_of : List Token → List (List ℕ)
 bytes_of ts = map (λ t. t.bytes) ts
 
+-- a byte in front of the first of some words
 abbrev pub put_first : ℕ → List (List ℕ) → List (List ℕ)
 put_first b [] = (b ∷ []) ∷ []
 put_first b (w ∷ ws) = (b ∷ w) ∷ ws
@@ -42,6 +43,7 @@ bytes_of-lengthened : (at b : ℕ) (ts : List Token) → bytes_of (lengthened at
 bytes_of-lengthened at b [] = refl
 bytes_of-lengthened at b (t ∷ ts) = refl
 
+-- the words of a line with one byte more, by whether it and the next one are blanks
 abbrev pub words_by : Bool → Bool → ℕ → List (List ℕ) → List (List ℕ)
 words_by true starts b ws = ws
 words_by false true b ws = put_first b ws
@@ -62,6 +64,7 @@ bytes_of-tokens at (b ∷ bs) = one at b bs (is_blank b) refl (begins_with_token
     one at b bs false h true s ih = rw (h, s) (bytes_of-lengthened at b (tokens is_blank (at + 1) bs) ∙ ap (put_first b) ih)
     one at b bs false h false s ih = rw (h, s) (ap (λ (ws : List (List ℕ)). (b ∷ []) ∷ ws) ih)
 
+-- the words of a line, byte by byte
 pub words-is : (line : List ℕ) → words line ≡ plain_words line
 words-is line = bytes_of-tokens 0 line
 
@@ -97,6 +100,7 @@ pub words_skip : (rest : List ℕ) → 0 < length rest → is_blank (get_or rest
 words_skip [] h e = absurd (omega arith)
 words_skip (b ∷ bs) h e = words-is bs ∙ sym (plain_words-blank b bs e) ∙ sym (words-is (b ∷ bs))
 
+-- a word has a byte at least
 pub word_some : (rest : List ℕ) → 0 < length rest → is_blank (get_or rest 0 0) ≡ false → 0 < position_or_len is_blank rest
 word_some [] h e = absurd (omega arith)
 word_some (b ∷ bs) h e = rw e (omega arith)
@@ -114,12 +118,14 @@ words_take (b ∷ bs) h e =
     let P : ℕ → Type 0 = λ n. take n (b ∷ bs) ∷ words (drop n (b ∷ bs)) ≡ words (b ∷ bs) in
     subst P (sym n-is) (there ∙ here)
 
+-- the next word goes to those before it
 pub words_on : (before : List (List ℕ)) (rest : List ℕ) (all : List (List ℕ)) → 0 < length rest → is_blank (get_or rest 0 0) ≡ false → before ++ words rest ≡ all
     → (before ++ take (position_or_len is_blank rest) rest ∷ []) ++ words (drop (position_or_len is_blank rest) rest) ≡ all
 words_on before rest all h e so_far =
     append_assoc before (take (position_or_len is_blank rest) rest ∷ []) (words (drop (position_or_len is_blank rest) rest))
     ∙ ap (λ (ws : List (List ℕ)). before ++ ws) (words_take rest h e) ∙ so_far
 
+-- a number that isn't 0 is more
 pub some_left : (n : ℕ) → false ≡ (n == 0) → 0 < n
 some_left zero e = absurd cc
 some_left (suc n) e = omega arith
@@ -136,6 +142,7 @@ trimmed_whole rest h e =
     split_last rest 0 h ∙ sym (trimmed-sign (take (length rest - 1) rest) (get_or rest (length rest - 1) 0) e)
     ∙ ap trimmed (sym (split_last rest 0 h))
 
+-- a position is at most the length
 pub position_or_len-within : (p : ℕ → Bool) (xs : List ℕ) → position_or_len p xs ≤ length xs
 position_or_len-within p [] = omega arith
 position_or_len-within p (x ∷ xs) = grind (arith, position_or_len-within p xs)

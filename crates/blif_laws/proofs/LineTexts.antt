@@ -47,6 +47,7 @@ uncut (b ∷ bs) h =
     let n : prefix_len plain (b ∷ bs) ≡ suc (prefix_len plain bs) = rw p.0 s in
     ap (λ (n : ℕ). take n (b ∷ bs)) n ∙ ap (λ (more : List ℕ). b ∷ more) (uncut bs p.1)
 
+-- nothing goes from a plain line
 pub stripped-plain : (line : List ℕ) → ArePlain line → EndsPlain line → stripped line ≡ line
 unfolding stripped
 stripped-plain line h e =
@@ -55,9 +56,11 @@ stripped-plain line h e =
     ap (λ (l : List ℕ). trimmed (without_comment l)) kept ∙ ap trimmed (uncut line h)
     ∙ ap trimmed e.parts ∙ trimmed-sign e.front e.last (not_blank e.last e.sign) ∙ sym e.parts
 
+-- a plain line is joined to nothing
 pub joins-plain : (line : List ℕ) → ArePlain line → EndsPlain line → joins line ≡ false
 joins-plain line h e = ap (ends_with 92) (stripped-plain line h e ∙ e.parts) ∙ ends_with-push 92 e.front e.last ∙ e.other
 
+-- all of a plain line counts
 pub content-plain : (line : List ℕ) → ArePlain line → EndsPlain line → content line ≡ line
 content-plain line h e =
     ap (λ (j : Bool). cond j (without_last (stripped line)) (stripped line)) (joins-plain line h e) ∙ stripped-plain line h e
@@ -75,16 +78,19 @@ single_word b (c ∷ cs) h =
     ap (λ (blank : Bool). words_by blank (begins_with_token is_blank cs) c (plain_words cs)) (sym (not_blank c q.0)) ∙ single_word c cs p.1 in
     rw (not_blank b p.0, not_blank c q.0) (ap (put_first b) more)
 
+-- a word is a line of one word
 pub word_alone : (w : List ℕ) → IsWord w → words w ≡ w ∷ []
 word_alone [] h = absurd (h.some refl)
 word_alone (b ∷ bs) h = words-is (b ∷ bs) ∙ single_word b bs (both (list_all is_sign (b ∷ bs)) (not (ends_with 92 (b ∷ bs))) h.sound).0
 
+-- the words of a printed line are those that were printed
 pub words-line_bytes : (w : List ℕ) (ws : List (List ℕ)) → AllByRecursion IsWord (w ∷ ws) → words (line_bytes (w ∷ ws)) ≡ w ∷ ws
 words-line_bytes w [] h = ap words (append-nil w) ∙ word_alone w h.0
 words-line_bytes w (v ∷ vs) h =
     words-append w (line_bytes (v ∷ vs)) ∙ ap (λ (ws : List (List ℕ)). ws ++ words (line_bytes (v ∷ vs))) (word_alone w h.0)
     ∙ ap (λ (ws : List (List ℕ)). w ∷ ws) (words-line_bytes v vs h.1)
 
+-- a printed line is plain
 pub plain-line_bytes : (w : List ℕ) (ws : List (List ℕ)) → AllByRecursion IsWord (w ∷ ws) → ArePlain (line_bytes (w ∷ ws))
 plain-line_bytes w [] h = subst ArePlain (sym (append-nil w)) h.0.uncommented
 plain-line_bytes w (v ∷ vs) h =
@@ -114,6 +120,7 @@ ends-word w h =
       other = sym (ends_with-push 92 (take (length w - 1) w) (get_or w (length w - 1) 0)) ∙ ap (ends_with 92) (sym parts) ∙ falsified (ends_with 92 w) s.1;
     }
 
+-- and so is its end
 pub ends-line_bytes : (w : List ℕ) (ws : List (List ℕ)) → AllByRecursion IsWord (w ∷ ws) → EndsPlain (line_bytes (w ∷ ws))
 ends-line_bytes w [] h = subst EndsPlain (sym (append-nil w)) (ends-word w h.0)
 ends-line_bytes w (v ∷ vs) h =
@@ -128,6 +135,7 @@ ends-line_bytes w (v ∷ vs) h =
 
 -- ---- the lines of a printed text
 
+-- a line feed
 abbrev pub is_feed : ℕ → Bool
 is_feed b = b == 10
 

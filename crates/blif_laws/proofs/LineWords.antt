@@ -14,6 +14,7 @@ use Rattle.blif_laws.proofs.LineLemmas.{plain_words, words_by, put_first, words-
 abbrev pub plain : ℕ → Bool
 plain b = not (b == 35)
 
+-- bytes without the sign of a comment
 abbrev pub ArePlain : List ℕ → Type 0
 ArePlain bytes = list_all plain bytes ≡ true
 
@@ -22,10 +23,12 @@ pub record IsRaw (word : List ℕ) : Type 0 where
   pub some : word ≢ []
   pub plain_bytes : ArePlain word
 
+-- both are true where their conjunction is
 pub both : (a b : Bool) → (a && b) ≡ true → (a ≡ true) × (b ≡ true)
 both true b e = (refl, e)
 both false b e = absurd cc
 
+-- and the conjunction where both are
 pub and : (a b : Bool) → a ≡ true → b ≡ true → (a && b) ≡ true
 and a b e f = rw (e, f) refl
 
@@ -107,6 +110,7 @@ raw-plain_words (b ∷ bs) h =
     let p = both (plain b) (list_all plain bs) h in
     raw-words_by (is_blank b) (begins_with_token is_blank bs) b (plain_words bs) p.0 (raw-plain_words bs p.1)
 
+-- the words of the statement are raw
 abbrev pub HasRawWords : Statement → Type 0
 HasRawWords s = AllByRecursion IsRaw s.words
 

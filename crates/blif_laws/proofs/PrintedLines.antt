@@ -366,6 +366,7 @@ outputs_there : (outputs : List (List ℕ)) → 1 ≤ length outputs → outputs
 outputs_there [] h e = absurd (omega arith)
 outputs_there (o ∷ os) h e = cc
 
+-- the text of a design has that design as its value
 pub printed_again : (m : BlifValue) → IsBlif m → length (blif_text m) ≤ MAX_BYTES → BlifText (blif_text m) m
 printed_again m h short =
     let again : statements (blif_text m) ≡ numbered 1 (blif_lines m) = from_line-printed 1 (blif_lines m) (blif_lines-IsLine m h) in

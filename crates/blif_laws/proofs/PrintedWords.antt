@@ -14,18 +14,23 @@ use Rattle.blif_laws.proofs.LineTexts.{IsLine}
 pub model_word : IsWord (codes ".model")
 model_word = record { some = λ (e : codes ".model" ≡ []). cc; sound = refl; uncommented = refl }
 
+-- `.inputs` is a word
 pub inputs_word : IsWord (codes ".inputs")
 inputs_word = record { some = λ (e : codes ".inputs" ≡ []). cc; sound = refl; uncommented = refl }
 
+-- `.outputs` is a word
 pub outputs_word : IsWord (codes ".outputs")
 outputs_word = record { some = λ (e : codes ".outputs" ≡ []). cc; sound = refl; uncommented = refl }
 
+-- `.names` is a word
 pub names_word : IsWord (codes ".names")
 names_word = record { some = λ (e : codes ".names" ≡ []). cc; sound = refl; uncommented = refl }
 
+-- `.end` is a word
 pub end_word : IsWord (codes ".end")
 end_word = record { some = λ (e : codes ".end" ≡ []). cc; sound = refl; uncommented = refl }
 
+-- a printed bit is a word
 pub bit_word-IsWord : (on : Bool) → IsWord (bit_word on)
 bit_word-IsWord false = record { some = λ (e : bit_word false ≡ []). cc; sound = refl; uncommented = refl }
 bit_word-IsWord true = record { some = λ (e : bit_word true ≡ []). cc; sound = refl; uncommented = refl }
@@ -62,6 +67,7 @@ no_end : (a b : Bool) → b ≡ false → not (a && b) ≡ true
 no_end true b e = ap not e
 no_end false b e = refl
 
+-- printed marks are a word
 pub marks_word : (m : Mark) (ms : List Mark) → IsWord (map mark_byte (m ∷ ms))
 marks_word m ms = record {
   some = λ (e : map mark_byte (m ∷ ms) ≡ []). cc;
@@ -74,6 +80,7 @@ row-IsLine : (on : Bool) (row : List Mark) → IsLine (row_words on row)
 row-IsLine on [] = (bit_word-IsWord on, tt)
 row-IsLine on (m ∷ ms) = (marks_word m ms, (bit_word-IsWord on, tt))
 
+-- a row is printed as words
 pub row_words-all : (on : Bool) (row : List Mark) → AllByRecursion IsWord (row_words on row)
 row_words-all on [] = (bit_word-IsWord on, tt)
 row_words-all on (m ∷ ms) = (marks_word m ms, (bit_word-IsWord on, tt))
@@ -99,6 +106,7 @@ inputs-IsLine : (names : List (List ℕ)) → AllByRecursion IsWord names → Al
 inputs-IsLine [] h = tt
 inputs-IsLine (n ∷ ns) h = ((inputs_word, h), tt)
 
+-- a design is printed as lines of words
 pub blif_lines-IsLine : (m : BlifValue) → IsBlif m → AllByRecursion IsLine (blif_lines m)
 blif_lines-IsLine m h =
     All-append IsLine (model_lines m.model) _ (model-IsLine m.model h.model)

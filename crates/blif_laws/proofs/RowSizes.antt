@@ -17,7 +17,8 @@ use Rattle.blif_defs.specs.Drafts.{Draft, start, closed, all_covers, signals, si
 use Rattle.blif_defs.specs.Rows.{row_parts, row_onto, is_row, is_mark, is_bit, agrees, with_row, bit_of, mark_of}
 use Rattle.blif_defs.specs.Grammar.{Statement, statements, with_input, with_inputs, with_output, with_outputs, with_model, with_names, with_end, with_row_line, with_line, with_words, kind_of, after_end, begun_with}
 use Rattle.blif_defs.specs.Texts.{Follows}
-use Rattle.blif_laws.proofs.Following.{bind_ok, passed, kept, ok_is}
+use Rattle.text_defs.proofs.StepLemmas.{bind_ok, unless_ok}
+use Rattle.blif_laws.proofs.Following.{passed, ok_is}
 use Rattle.blif_laws.proofs.LineWords.{both}
 use Rattle.blif_laws.proofs.TextSizes.{words_size, words_size-cons, statements_size, statements_size-le}
 
@@ -39,7 +40,7 @@ draft_size-parts d = sum_by-append (λ (c : CoverValue). rows_size c.rows + 1) d
 
 input-covers : (at : ℕ) (d : Draft) (name : List ℕ) (e : Draft) → with_input at d name ≡ Ok e → all_covers d ≡ all_covers e
 input-covers at d name e k =
-    let fresh = kept (is_among name (signals d)) (DoubleDriven at) _ e k in
+    let fresh = unless_ok (is_among name (signals d)) (DoubleDriven at) _ e k in
     let room = passed _ (Limit at) (Ok (record d { inputs = d.inputs ++ name ∷ [] })) e fresh.1 in
     ap all_covers (ok_is (record d { inputs = d.inputs ++ name ∷ [] }) e room.1)
 
@@ -51,7 +52,7 @@ inputs-covers at d (n ∷ ns) e k =
 
 output-covers : (at : ℕ) (d : Draft) (name : List ℕ) (e : Draft) → with_output at d name ≡ Ok e → all_covers d ≡ all_covers e
 output-covers at d name e k =
-    let fresh = kept (is_among name d.outputs) (RepeatedOutput at) _ e k in
+    let fresh = unless_ok (is_among name d.outputs) (RepeatedOutput at) _ e k in
     let room = passed (nat_lt (length d.outputs) MAX_PORTS) (Limit at) (Ok (record d { outputs = d.outputs ++ name ∷ [] })) e fresh.1 in
     ap all_covers (ok_is (record d { outputs = d.outputs ++ name ∷ [] }) e room.1)
 
@@ -63,7 +64,7 @@ outputs-covers at d (n ∷ ns) e k =
 
 model-covers : (at : ℕ) (d : Draft) (names : List (List ℕ)) (e : Draft) → with_model at d names ≡ Ok e → all_covers d ≡ all_covers e
 model-covers at d names e k =
-    let early = kept d.begun (Unsupported at) _ e k in
+    let early = unless_ok d.begun (Unsupported at) _ e k in
     let one = passed (nat_le (length names) 1) (Syntax at) (Ok (record d { model = get_or names 0 [] })) e early.1 in
     ap all_covers (ok_is (record d { model = get_or names 0 [] }) e one.1)
 
@@ -88,9 +89,9 @@ names-size at d names e k =
     let ins = without_last names in
     let out = get_or names _ [] in
     let c : CoverValue = record { ins = ins; out = out; on = true; rows = [] } in
-    let some = kept (length names == 0) (Syntax at) _ e k in
-    let few = kept (nat_lt MAX_PORTS (length ins)) (Limit at) _ e some.1 in
-    let fresh = kept (is_among out (signals d)) (DoubleDriven at) _ e few.1 in
+    let some = unless_ok (length names == 0) (Syntax at) _ e k in
+    let few = unless_ok (nat_lt MAX_PORTS (length ins)) (Limit at) _ e some.1 in
+    let fresh = unless_ok (is_among out (signals d)) (DoubleDriven at) _ e few.1 in
     let room = passed (nat_lt (signal_count d) MAX_SIGNALS) (Limit at) (Ok (record d { current = Some c })) e fresh.1 in
     let same : draft_size (record d { current = Some c }) ≡ draft_size e = ap draft_size (ok_is (record d { current = Some c }) e room.1) in
     omega (arith, same, open-size d c, draft_size-parts d)
@@ -163,7 +164,7 @@ words-size at d [] e k =
     omega (arith, same)
 words-size at d (first ∷ names) e k =
     let sound = passed (list_all is_sound (first ∷ names)) (Syntax at) _ e k in
-    let early = kept d.ended (after_end (kind_of first) at) _ e sound.1 in
+    let early = unless_ok d.ended (after_end (kind_of first) at) _ e sound.1 in
     let b = bind_ok (with_line (kind_of first) at d first names) (λ x. Ok (begun_with x)) e early.1 in
     let same : draft_size b.0 ≡ draft_size e = ap draft_size (ok_is (begun_with b.0) e b.2) in
     omega (arith, same, line-size (kind_of first) at d first names b.0 b.1)

@@ -21,7 +21,8 @@ use Rattle.blif_defs.specs.Rows.{is_mark, mark_of, is_bit, bit_of, row_parts, is
 use Rattle.blif_defs.specs.Grammar.{Statement, statements, kind_of, with_input, with_inputs, with_output, with_outputs, with_model, with_names, with_end, with_row_line, with_line, with_words, after_end, begun_with}
 use Rattle.blif_defs.specs.Texts.{Follows, BlifText}
 use Rattle.blif_defs.specs.Printing.{mark_byte, bit_word, row_words, cover_lines}
-use Rattle.blif_laws.proofs.Following.{bind_ok, passed, kept, ok_is}
+use Rattle.text_defs.proofs.StepLemmas.{bind_ok, unless_ok}
+use Rattle.blif_laws.proofs.Following.{passed, ok_is}
 use Rattle.blif_laws.proofs.LineLemmas.{split_last}
 use Rattle.blif_laws.proofs.LineWords.{both}
 use Rattle.blif_laws.specs.Meaning.{inputs_of_kind, outputs_of_kind, cover_line_of_kind, inputs_on, outputs_on, cover_line_on, IsSaid}
@@ -41,6 +42,7 @@ pub record Keeps (d e : Draft) (inputs outputs : List (List ℕ)) : Type 0 where
   pub outputs_are : e.outputs ≡ d.outputs ++ outputs
   pub covers_are : all_covers e ≡ all_covers d
 
+-- a step that closes the open cover first adds no line of a cover
 pub adds_from_closed : (d e : Draft) (inputs outputs : List (List ℕ)) → Keeps (closed d) e inputs outputs → Adds d e inputs outputs []
 adds_from_closed d e inputs outputs k = record {
   inputs_are = k.inputs_are;
@@ -50,14 +52,14 @@ adds_from_closed d e inputs outputs k = record {
 
 input_keeps : (at : ℕ) (d : Draft) (name : List ℕ) (e : Draft) → with_input at d name ≡ Ok e → Keeps d e (name ∷ []) []
 input_keeps at d name e k =
-    let fresh = kept (is_among name (signals d)) (DoubleDriven at) _ e k in
+    let fresh = unless_ok (is_among name (signals d)) (DoubleDriven at) _ e k in
     let room = passed (nat_lt (length d.inputs) MAX_PORTS && nat_lt (signal_count d) MAX_SIGNALS) (Limit at) (Ok (record d { inputs = d.inputs ++ name ∷ [] })) e fresh.1 in
     let P : Draft → Type 0 = λ e. Keeps d e (name ∷ []) [] in
     subst P (ok_is (record d { inputs = d.inputs ++ name ∷ [] }) e room.1) (record { inputs_are = refl; outputs_are = sym (append-nil d.outputs); covers_are = refl })
 
 output_keeps : (at : ℕ) (d : Draft) (name : List ℕ) (e : Draft) → with_output at d name ≡ Ok e → Keeps d e [] (name ∷ [])
 output_keeps at d name e k =
-    let fresh = kept (is_among name d.outputs) (RepeatedOutput at) _ e k in
+    let fresh = unless_ok (is_among name d.outputs) (RepeatedOutput at) _ e k in
     let room = passed (nat_lt (length d.outputs) MAX_PORTS) (Limit at) (Ok (record d { outputs = d.outputs ++ name ∷ [] })) e fresh.1 in
     let P : Draft → Type 0 = λ e. Keeps d e [] (name ∷ []) in
     subst P (ok_is (record d { outputs = d.outputs ++ name ∷ [] }) e room.1) (record { inputs_are = sym (append-nil d.inputs); outputs_are = refl; covers_are = refl })
@@ -65,6 +67,7 @@ output_keeps at d name e k =
 keeps_same : (d e : Draft) → d ≡ e → Keeps d e [] []
 keeps_same d e h = subst (λ (x : Draft). Keeps d x [] []) h (record { inputs_are = sym (append-nil d.inputs); outputs_are = sym (append-nil d.outputs); covers_are = refl })
 
+-- inputs add their names
 pub inputs_keep : (at : ℕ) (d : Draft) (names : List (List ℕ)) (e : Draft) → with_inputs at d names ≡ Ok e → Keeps d e names []
 inputs_keep at d [] e k = keeps_same d e (ok_is d e k)
 inputs_keep at d (n ∷ ns) e k =
@@ -77,6 +80,7 @@ inputs_keep at d (n ∷ ns) e k =
       covers_are = more.covers_are ∙ one.covers_are;
     }
 
+-- outputs add their names
 pub outputs_keep : (at : ℕ) (d : Draft) (names : List (List ℕ)) (e : Draft) → with_outputs at d names ≡ Ok e → Keeps d e [] names
 outputs_keep at d [] e k = keeps_same d e (ok_is d e k)
 outputs_keep at d (n ∷ ns) e k =
@@ -91,10 +95,11 @@ outputs_keep at d (n ∷ ns) e k =
 
 pub model_keeps : (at : ℕ) (d : Draft) (names : List (List ℕ)) (e : Draft) → with_model at d names ≡ Ok e → Keeps d e [] []
 model_keeps at d names e k =
-    let early = kept d.begun (Unsupported at) _ e k in
+    let early = unless_ok d.begun (Unsupported at) _ e k in
     let one = passed (nat_le (length names) 1) (Syntax at) (Ok (record d { model = get_or names 0 [] })) e early.1 in
     subst (λ (x : Draft). Keeps d x [] []) (ok_is (record d { model = get_or names 0 [] }) e one.1) (record { inputs_are = sym (append-nil d.inputs); outputs_are = sym (append-nil d.outputs); covers_are = refl })
 
+-- `.end` adds nothing
 pub end_keeps : (at : ℕ) (d : Draft) (names : List (List ℕ)) (e : Draft) → with_end at d names ≡ Ok e → Keeps d e [] []
 end_keeps at d names e k =
     let none = passed (length names == 0) (Syntax at) (Ok (record d { ended = true })) e k in
@@ -134,14 +139,15 @@ names_keyword word h =
     by false false false false false true n h = cc
     by false false false false false false n h = cc
 
+-- a line that opens a cover adds itself
 pub cover_adds : (at : ℕ) (d : Draft) (first : List ℕ) (names : List (List ℕ)) (e : Draft) → kind_of first ≡ Names → with_names at (closed d) names ≡ Ok e → Adds d e [] [] ((first ∷ names) ∷ [])
 cover_adds at d first names e kind k =
-    let some = kept (length names == 0) (Syntax at) _ e k in
+    let some = unless_ok (length names == 0) (Syntax at) _ e k in
     let ins = without_last names in
     let out = get_or names (length names - 1) [] in
     let c : CoverValue = record { ins = ins; out = out; on = true; rows = [] } in
-    let few = kept (nat_lt MAX_PORTS (length ins)) (Limit at) _ e some.1 in
-    let fresh = kept (is_among out (signals (closed d))) (DoubleDriven at) _ e few.1 in
+    let few = unless_ok (nat_lt MAX_PORTS (length ins)) (Limit at) _ e some.1 in
+    let fresh = unless_ok (is_among out (signals (closed d))) (DoubleDriven at) _ e few.1 in
     let room = passed (nat_lt (signal_count (closed d)) MAX_SIGNALS) (Limit at) (Ok (record (closed d) { current = Some c })) e fresh.1 in
     let parts = split_last names [] (there (length names) some.0) in
     let line : cover_lines c ≡ (first ∷ names) ∷ [] =
@@ -285,7 +291,7 @@ words_add : (at : ℕ) (d : Draft) (ws : List (List ℕ)) (e : Draft) → with_w
 words_add at d [] e k = subst (λ (x : Draft). Adds d x [] [] []) (ok_is d e k) (nothing_added d)
 words_add at d (first ∷ names) e k =
     let sound = passed (list_all is_sound (first ∷ names)) (Syntax at) _ e k in
-    let early = kept d.ended (after_end (kind_of first) at) _ e sound.1 in
+    let early = unless_ok d.ended (after_end (kind_of first) at) _ e sound.1 in
     let b = bind_ok (with_line (kind_of first) at d first names) (λ x. Ok (begun_with x)) e early.1 in
     let a = line_adds (kind_of first) at d first names b.0 refl b.1 in
     subst (λ (x : Draft). Adds d x (inputs_on (first ∷ names)) (outputs_on (first ∷ names)) (cover_line_on (first ∷ names))) (ok_is (begun_with b.0) e b.2)
@@ -303,6 +309,7 @@ lines_add d (s ∷ ss) e k =
       lines_are = more.lines_are ∙ ap (λ (xs : List (List (List ℕ))). xs ++ flat_map (λ (s : Statement). cover_line_on s.words) ss) one.lines_are ∙ append_assoc (lines_of d) (cover_line_on s.words) _;
     }
 
+-- the value of a text is what its lines say
 pub said : (text : List ℕ) (m : BlifValue) → BlifText text m → IsSaid text m
 said text m t =
     let a = lines_add start (statements text) t.end t.follows in

@@ -6,14 +6,17 @@ use Rattle.std.proofs.lemmas.Bool.Decides.{nat_tests}
 use Rattle.std.proofs.lemmas.Map.Keys.{IsDistinct-head, IsDistinct-tail, IsDistinct-cons}
 use Rattle.blif_defs.specs.Drafts.{is_among}
 
+-- what holds of all elements of two lists holds of all of both
 pub All-append : {X : Type 0} (P : X → Type 0) (xs ys : List X) → AllByRecursion P xs → AllByRecursion P ys → AllByRecursion P (xs ++ ys)
 All-append P [] ys h k = k
 All-append P (x ∷ xs) ys h k = (h.0, All-append P xs ys h.1 k)
 
+-- and of the first of them
 pub All-left : {X : Type 0} (P : X → Type 0) (xs ys : List X) → AllByRecursion P (xs ++ ys) → AllByRecursion P xs
 All-left P [] ys h = tt
 All-left P (x ∷ xs) ys h = (h.0, All-left P xs ys h.1)
 
+-- and of the second
 pub All-right : {X : Type 0} (P : X → Type 0) (xs ys : List X) → AllByRecursion P (xs ++ ys) → AllByRecursion P ys
 All-right P [] ys h = h
 All-right P (x ∷ xs) ys h = All-right P xs ys h.1
@@ -21,6 +24,7 @@ All-right P (x ∷ xs) ys h = All-right P xs ys h.1
 eqb_comm : (a b : ℕ) → eqb a b ≡ eqb b a
 eqb_comm a b = grind (arith, nat_tests)
 
+-- equality of bytes goes both ways
 pub bytes_eq_comm : (a b : List ℕ) → bytes_eq a b ≡ bytes_eq b a
 bytes_eq_comm [] [] = refl
 bytes_eq_comm [] (b ∷ bs) = refl
@@ -38,6 +42,7 @@ apart_from_each name (n ∷ ns) e =
     let h = neither (bytes_eq name n) (is_among name ns) e in
     (h.0, apart_from_each name ns h.1)
 
+-- a name that differs from each isn't among them
 pub absent : (name : List ℕ) (names : List (List ℕ)) → AllByRecursion (λ n. bytes_eq name n ≡ false) names → is_among name names ≡ false
 absent name [] h = refl
 absent name (n ∷ ns) h = rw (h.0, absent name ns h.1) refl

@@ -18,9 +18,11 @@ words_size ws = sum_by (λ w. length w + 1) ws
 abbrev lines_size : List Line → ℕ
 lines_size ls = sum_by (λ (l : Line). length l.bytes + 1) ls
 
+-- the size of all statements
 abbrev pub statements_size : List Statement → ℕ
 statements_size ss = sum_by (λ (s : Statement). words_size s.words) ss
 
+-- the size of one word more
 pub words_size-cons : (w : List ℕ) (ws : List (List ℕ)) → words_size (w ∷ ws) ≡ length w + 1 + words_size ws
 words_size-cons w ws = sum_by-cons (λ (v : List ℕ). length v + 1) w ws
 

@@ -37,14 +37,17 @@ cover_line_of_kind End line = []
 cover_line_of_kind Other line = []
 cover_line_of_kind Row line = line ∷ []
 
+-- the inputs that a line names
 abbrev pub inputs_on : List (List ℕ) → List (List ℕ)
 inputs_on [] = []
 inputs_on (first ∷ names) = inputs_of_kind (kind_of first) names
 
+-- the outputs that a line names
 abbrev pub outputs_on : List (List ℕ) → List (List ℕ)
 outputs_on [] = []
 outputs_on (first ∷ names) = outputs_of_kind (kind_of first) names
 
+-- the line itself, where it opens a cover or is a row
 abbrev pub cover_line_on : List (List ℕ) → List (List (List ℕ))
 cover_line_on [] = []
 cover_line_on (first ∷ names) = cover_line_of_kind (kind_of first) (first ∷ names)

@@ -17,15 +17,18 @@ pub fn value_is_read()
 
 /// `reading` answers the first fault of each text that has no value, and no other fault.
 pub fn first_fault_is_read()
-    ensures read { (text : List ℕ) (fault : BlifError) → BlifFault text fault → reading text ≡ Err fault }
-    ensures only { (text : List ℕ) (fault : BlifError) → reading text ≡ Err fault → BlifFault text fault }
+    ensures read { (text : List ℕ) (fault : BlifError) → BlifFault text fault
+        → reading text ≡ Err fault }
+    ensures only { (text : List ℕ) (fault : BlifError) → reading text ≡ Err fault
+        → BlifFault text fault }
 {}
 
 /// Each text has one value or one first fault, and never both. That memory was wanting is the fault
 /// of no text.
 pub fn text_has_one_value_or_fault()
     ensures exists { (text : List ℕ) → (read : Result BlifValue BlifError) × BlifOf text read }
-    ensures unique { (text : List ℕ) (a b : Result BlifValue BlifError) → BlifOf text a → BlifOf text b → a ≡ b }
+    ensures unique { (text : List ℕ) (a b : Result BlifValue BlifError) → BlifOf text a
+        → BlifOf text b → a ≡ b }
     ensures memory { (text : List ℕ) → BlifFault text NoMemory → ⊥ }
 {}
 
@@ -43,5 +46,6 @@ pub fn value_is_what_lines_say()
 /// The printed text of a design within the limits has that design as its value, where it isn't too
 /// long.
 pub fn printed_text_is_read()
-    ensures { (m : BlifValue) → IsBlif m → length (blif_text m) ≤ MAX_BYTES → BlifText (blif_text m) m }
+    ensures { (m : BlifValue) → IsBlif m → length (blif_text m) ≤ MAX_BYTES
+        → BlifText (blif_text m) m }
 {}

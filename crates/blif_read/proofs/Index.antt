@@ -9,6 +9,7 @@ use Rattle.blif_defs.specs.Values.{CoverValue, signals_of}
 use Rattle.blif_defs.specs.Drafts.{is_among}
 use Rattle.blif_laws.proofs.Sets.{bytes_eq_comm}
 
+-- two words with the same bytes
 abbrev pub same_word : Bor (List ℕ) → Bor (List ℕ) → Bool
 same_word a b = bytes_eq a.now b.now
 
@@ -49,10 +50,12 @@ is_among_input q inputs more name pushed covers e f =
     sym (ap (λ (ns : List (List ℕ)). is_among q (signals_of ns covers)) (e ∙ ap (λ (n : List ℕ). inputs ++ n ∷ []) f)
     ∙ is_among_more q inputs name (map (λ d. d.out) covers))
 
+-- an input more is within the limit
 pub few_inputs : (inputs more : List (List ℕ)) (name : List ℕ) (covers : List CoverValue) (count limit : ℕ) → more ≡ inputs ++ name ∷ []
     → count ≡ length inputs + length covers → count < limit → length more + length covers ≤ limit
 few_inputs inputs more name covers count limit e count-is lt = omega (arith, ap length e, length-append inputs (name ∷ []))
 
+-- and a cover more
 pub few_covers : (inputs : List (List ℕ)) (covers : List CoverValue) (c : CoverValue) (current : Option CoverValue) (count limit : ℕ) → current ≡ None
     → count ≡ length inputs + length (covers ++ option_to_list current) → count < limit → length inputs + length (covers ++ c ∷ []) ≤ limit
 few_covers inputs covers c current count limit none count-is lt =

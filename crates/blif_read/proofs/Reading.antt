@@ -18,9 +18,11 @@ use Rattle.blif_read.specs.Views.{texts}
 use Rattle.blif_laws.proofs.LineLemmas.{some_left}
 use Rattle.blif_laws.proofs.Joining.{put_in_front, from_line, last_line, single_line, nothing_in_front, joined_line}
 
+-- a line feed
 abbrev pub is_feed : ℕ → Bool
 is_feed b = b == 10
 
+-- the lines of a text
 abbrev pub lines : List ℕ → List (List ℕ)
 lines text = slice_split is_feed text
 
@@ -62,6 +64,7 @@ ok_is x y e = cc
 pub pushed_joins : (x y : Bool × List (List ℕ)) → ok x ≡ ok y → x.0 ≡ y.0
 pushed_joins x y e = ap (λ (z : Bool × List (List ℕ)). z.0) (ok_is x y e)
 
+-- and the words that were there and those of the line
 pub pushed_words : (x y : Bool × List (List ℕ)) → ok x ≡ ok y → y.1 ≡ x.1
 pushed_words x y e = ap (λ (z : Bool × List (List ℕ)). z.1) (sym (ok_is x y e))
 
@@ -89,6 +92,7 @@ lines_begin d text items h none =
 
 -- ---- the turns
 
+-- the last line gives what the whole text gives
 pub last_step : (d : Draft) (first at n : ℕ) (pending : List (List ℕ)) (flag : Bool) (items slice : List (Bor (List ℕ))) (rest line after : List ℕ) (total : Result Draft BlifError)
     → n ≡ position_or_len is_feed rest → line ≡ take n rest → after ≡ drop n rest → true ≡ (length after == 0)
     → ok (joins line, pending ++ words (content line)) ≡ ok (flag, texts items) → slice ≡ items
@@ -103,6 +107,7 @@ last_step d first at n pending flag items slice rest line after total n-is line-
     ∙ ap (with_statements d) (last_line first pending at line)
     ∙ ap (λ (ws : List (List ℕ)). with_words first d ws >>= λ e. with_statements e []) (sym ws-is)
 
+-- so does a line that is joined to nothing
 pub single_step : (d : Draft) (first at n : ℕ) (pending : List (List ℕ)) (flag : Bool) (items slice : List (Bor (List ℕ))) (rest line after next : List ℕ) (total : Result Draft BlifError)
     → n ≡ position_or_len is_feed rest → line ≡ take n rest → after ≡ drop n rest → false ≡ (length after == 0) → next ≡ drop 1 after
     → ok (joins line, pending ++ words (content line)) ≡ ok (flag, texts items) → slice ≡ items → flag ≡ false
@@ -123,6 +128,7 @@ single_step d first at n pending flag items slice rest line after next total n-i
     ∙ ap (λ (ws : List (List ℕ)). with_words first d ws >>= λ e. with_statements e (from_line (at + 1) (lines next))) (sym ws-is)
     ∙ ap (λ (more : List Statement). with_words first d (texts slice) >>= λ e. with_statements e more) front
 
+-- and a line that is joined to the next one
 pub join_step : (d : Draft) (first at n : ℕ) (pending : List (List ℕ)) (flag : Bool) (items slice : List (Bor (List ℕ))) (rest line after next : List ℕ) (total : Result Draft BlifError)
     → n ≡ position_or_len is_feed rest → line ≡ take n rest → after ≡ drop n rest → false ≡ (length after == 0) → next ≡ drop 1 after
     → ok (joins line, pending ++ words (content line)) ≡ ok (flag, texts items) → slice ≡ items → flag ≡ true
@@ -144,9 +150,11 @@ join_step d first at n pending flag items slice rest line after next total n-is 
 
 -- ---- what a step gives to the whole
 
+-- a step that gives a value leaves the rest
 pub goes_on : {A B : Type 0} (r : Result A BlifError) (x : A) (f : A → Result B BlifError) (total : Result B BlifError) → r ≡ Ok x → total ≡ (r >>= f) → total ≡ f x
 goes_on r x f total e t = t ∙ ap (λ (s : Result _ BlifError). s >>= f) e
 
+-- a step that fails is where the whole fails
 pub fails : {A B : Type 0} (e : BlifError) (r : Result A BlifError) (f : A → Result B BlifError) (total : Result B BlifError)
     → (e ≡ NoMemory) ⊎ (r ≡ Err e) → total ≡ (r >>= f) → (e ≡ NoMemory) ⊎ (total ≡ Err e)
 fails e r f total h t = ⊎_elim (λ memory. inl memory) (λ is. inr (t ∙ ap (λ (s : Result _ BlifError). s >>= f) is)) h

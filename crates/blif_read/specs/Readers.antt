@@ -9,6 +9,7 @@ use Rattle.blif_defs.specs.Drafts.{signals, signal_count, is_among}
 use Rattle.blif_read.specs.declared.reader.Reader.{Reader}
 use Rattle.blif_read.specs.Views.{cover_of}
 
+-- what a reader has read, as its plain record
 abbrev pub draft_of : Reader → drafts.Draft
 draft_of r = record {
   model = r.model;

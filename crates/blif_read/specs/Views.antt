@@ -7,9 +7,11 @@ use Rattle.blif_defs.specs.Texts.{BlifText, BlifFault}
 use Rattle.blif_read.specs.declared.cover.Cover.{Cover}
 use Rattle.blif_read.specs.declared.blif.Blif.{Blif}
 
+-- a cover as its plain record
 abbrev pub cover_of : Cover → CoverValue
 cover_of c = record { ins = c.ins; out = c.out; on = c.on; rows = c.rows }
 
+-- a design as its plain record
 abbrev pub blif_of : Blif → BlifValue
 blif_of b = record { model = b.model; inputs = b.inputs; outputs = b.outputs; covers = map cover_of b.covers }
 

@@ -59,7 +59,8 @@ pub(crate) fn push_row(
     cover: &mut Cover,
     row: Option<(&[u8], &[u8])>,
 ) -> Result<(), BlifError>
-    ensures reads { Gives NoMemory (λ _. cover_of cover.new) result (row_onto line (cover_of cover.old) (parts_of row.entry)) }
+    ensures reads { Gives NoMemory (λ _. cover_of cover.new) result
+        (row_onto line (cover_of cover.old) (parts_of row.entry)) }
     ensures out { OnOk result (cover.new.out ≡ cover.old.out) }
 {
     let Some((marks, bit)) = row else {

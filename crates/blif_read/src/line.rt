@@ -115,7 +115,8 @@ fn word_len(line: &[u8]) -> usize
 
 /// Appends the words of the line.
 pub(crate) fn push_words<'a>(list: &mut Vec<&'a [u8]>, line: &'a [u8]) -> Result<(), BlifError>
-    ensures { Gives NoMemory (λ _. texts list.new.items) result (Ok (texts list.old.items ++ words line.now)) }
+    ensures { Gives NoMemory (λ _. texts list.new.items) result
+        (Ok (texts list.old.items ++ words line.now)) }
 {
     let mut rest = line;
     while !rest.is_empty() {

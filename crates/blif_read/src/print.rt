@@ -66,7 +66,8 @@ fn push_row(out: &mut Vec<u8>, on: bool, row: &Row) -> Result<(), NoMemory>
 
 /// Appends the lines of the rows.
 fn push_rows(out: &mut Vec<u8>, on: bool, rows: &[Row]) -> Result<(), NoMemory>
-    ensures { OnOk result (out.new.items ≡ out.old.items ++ flat_map line_text (map (row_words on) rows.now)) }
+    ensures { OnOk result (out.new.items ≡ out.old.items ++ flat_map line_text
+        (map (row_words on) rows.now)) }
 {
     for row in rows {
         push_row(out, on, row)?;
@@ -76,7 +77,8 @@ fn push_rows(out: &mut Vec<u8>, on: bool, rows: &[Row]) -> Result<(), NoMemory>
 
 /// Appends the lines of a cover.
 fn push_cover(out: &mut Vec<u8>, cover: &Cover) -> Result<(), NoMemory>
-    ensures { OnOk result (out.new.items ≡ out.old.items ++ flat_map line_text (cover_lines (cover_of cover.now))) }
+    ensures { OnOk result (out.new.items ≡ out.old.items ++ flat_map line_text
+        (cover_lines (cover_of cover.now))) }
 {
     out.extend_from_slice(b".names")?;
     push_names(out, cover.ins.as_slice())?;
@@ -88,7 +90,8 @@ fn push_cover(out: &mut Vec<u8>, cover: &Cover) -> Result<(), NoMemory>
 
 /// Appends the lines of the covers.
 fn push_covers(out: &mut Vec<u8>, covers: &[Cover]) -> Result<(), NoMemory>
-    ensures { OnOk result (out.new.items ≡ out.old.items ++ flat_map line_text (flat_map cover_lines (map cover_of covers.now))) }
+    ensures { OnOk result (out.new.items ≡ out.old.items ++ flat_map line_text
+        (flat_map cover_lines (map cover_of covers.now))) }
 {
     for cover in covers {
         push_cover(out, cover)?;
@@ -98,7 +101,8 @@ fn push_covers(out: &mut Vec<u8>, covers: &[Cover]) -> Result<(), NoMemory>
 
 /// Appends the line of the model, where it has a name.
 fn push_model(out: &mut Vec<u8>, model: &Name) -> Result<(), NoMemory>
-    ensures { OnOk result (out.new.items ≡ out.old.items ++ flat_map line_text (model_lines model.now)) }
+    ensures { OnOk result (out.new.items ≡ out.old.items ++ flat_map line_text
+        (model_lines model.now)) }
 {
     if !model.bytes().is_empty() {
         out.extend_from_slice(b".model ")?;
@@ -110,7 +114,8 @@ fn push_model(out: &mut Vec<u8>, model: &Name) -> Result<(), NoMemory>
 
 /// Appends the line of the inputs, where there are any.
 fn push_inputs(out: &mut Vec<u8>, inputs: &[Name]) -> Result<(), NoMemory>
-    ensures { OnOk result (out.new.items ≡ out.old.items ++ flat_map line_text (input_lines inputs.now)) }
+    ensures { OnOk result (out.new.items ≡ out.old.items ++ flat_map line_text
+        (input_lines inputs.now)) }
 {
     if !inputs.is_empty() {
         out.extend_from_slice(b".inputs")?;
@@ -122,7 +127,8 @@ fn push_inputs(out: &mut Vec<u8>, inputs: &[Name]) -> Result<(), NoMemory>
 
 /// Appends the line of the outputs.
 fn push_outputs(out: &mut Vec<u8>, outputs: &[Name]) -> Result<(), NoMemory>
-    ensures { OnOk result (out.new.items ≡ out.old.items ++ line_text (codes ".outputs" ∷ outputs.now)) }
+    ensures { OnOk result (out.new.items ≡ out.old.items ++ line_text
+        (codes ".outputs" ∷ outputs.now)) }
 {
     out.extend_from_slice(b".outputs")?;
     push_names(out, outputs)?;
@@ -146,7 +152,8 @@ fn printed(alloc: Global, b: &Blif) -> Result<Vec<u8>, NoMemory>
 /// design is one that `read_blif` can give and the text isn't too long.
 pub fn print_blif(alloc: Global, b: &Blif) -> Result<Vec<u8>, NoMemory>
     ensures text { IfOk result (λ v. v.items ≡ blif_text (blif_of b.now)) }
-    ensures again { IsBlif (blif_of b.now) → IfOk result (λ v. length v.items ≤ MAX_BYTES → BlifText v.items (blif_of b.now)) }
+    ensures again { IsBlif (blif_of b.now) → IfOk result
+        (λ v. length v.items ≤ MAX_BYTES → BlifText v.items (blif_of b.now)) }
 {
     printed(alloc, b)
 }

@@ -19,7 +19,8 @@ use std::alloc::Global;
 
 /// Appends the words of the line, and says whether the line is joined to the next one.
 fn push_line<'a>(list: &mut Vec<&'a [u8]>, line: &'a [u8]) -> Result<bool, BlifError>
-    ensures { Gives {Y = Bool × List (List ℕ)} NoMemory (λ b. (b, texts list.new.items)) result (Ok (joins line.now, texts list.old.items ++ words (content line.now))) }
+    ensures { Gives {Y = Bool × List (List ℕ)} NoMemory (λ b. (b, texts list.new.items)) result
+        (Ok (joins line.now, texts list.old.items ++ words (content line.now))) }
 {
     let line = stripped(line);
     let joins = ends_with(b'\\', line);

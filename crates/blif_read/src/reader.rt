@@ -64,7 +64,8 @@ impl<'a> Reader<'a> {
     /// The open cover takes no more rows.
     fn close(&mut self) -> Result<(), BlifError>
         requires { IsIndexed self.old }
-        ensures reads { Gives NoMemory (λ _. draft_of self.new) result (Ok (closed (draft_of self.old))) }
+        ensures reads { Gives NoMemory (λ _. draft_of self.new) result
+            (Ok (closed (draft_of self.old))) }
         ensures indexed { OnOk result (IsIndexed self.new) }
     {
         if let Some(cover) = self.current.take() {
@@ -84,7 +85,8 @@ impl<'a> Reader<'a> {
 
     fn add_input(&mut self, alloc: Global, line: u32, name: &'a [u8]) -> Result<(), BlifError>
         requires { IsIndexed self.old }
-        ensures reads { Gives NoMemory (λ _. draft_of self.new) result (with_input line (draft_of self.old) name.now) }
+        ensures reads { Gives NoMemory (λ _. draft_of self.new) result
+            (with_input line (draft_of self.old) name.now) }
         ensures indexed { OnOk result (IsIndexed self.new) }
     {
         if self.known.contains(name) {
@@ -100,7 +102,8 @@ impl<'a> Reader<'a> {
 
     fn add_inputs(&mut self, alloc: Global, line: u32, names: &[&'a [u8]]) -> Result<(), BlifError>
         requires { IsIndexed self.old }
-        ensures reads { Gives NoMemory (λ _. draft_of self.new) result (with_inputs line (draft_of self.old) (texts names.now)) }
+        ensures reads { Gives NoMemory (λ _. draft_of self.new) result
+            (with_inputs line (draft_of self.old) (texts names.now)) }
         ensures indexed { OnOk result (IsIndexed self.new) }
     {
         for name in names {
@@ -123,7 +126,8 @@ impl<'a> Reader<'a> {
 
     fn add_output(&mut self, alloc: Global, line: u32, name: &[u8]) -> Result<(), BlifError>
         requires { IsIndexed self.old }
-        ensures reads { Gives NoMemory (λ _. draft_of self.new) result (with_output line (draft_of self.old) name.now) }
+        ensures reads { Gives NoMemory (λ _. draft_of self.new) result
+            (with_output line (draft_of self.old) name.now) }
         ensures indexed { OnOk result (IsIndexed self.new) }
     {
         if self.has_output(name) {
@@ -138,7 +142,8 @@ impl<'a> Reader<'a> {
 
     fn add_outputs(&mut self, alloc: Global, line: u32, names: &[&[u8]]) -> Result<(), BlifError>
         requires { IsIndexed self.old }
-        ensures reads { Gives NoMemory (λ _. draft_of self.new) result (with_outputs line (draft_of self.old) (texts names.now)) }
+        ensures reads { Gives NoMemory (λ _. draft_of self.new) result
+            (with_outputs line (draft_of self.old) (texts names.now)) }
         ensures indexed { OnOk result (IsIndexed self.new) }
     {
         for name in names {
@@ -157,7 +162,8 @@ impl<'a> Reader<'a> {
     ) -> Result<(), BlifError>
         requires indexed { IsIndexed self.old }
         requires closed { self.old.current ≡ None }
-        ensures reads { Gives NoMemory (λ _. draft_of self.new) result (with_cover line (draft_of self.old) (texts ins.now) out.now) }
+        ensures reads { Gives NoMemory (λ _. draft_of self.new) result
+            (with_cover line (draft_of self.old) (texts ins.now) out.now) }
         ensures indexed { OnOk result (IsIndexed self.new) }
     {
         if ins.len() > MAX_PORTS {
@@ -183,7 +189,8 @@ impl<'a> Reader<'a> {
     fn read_names(&mut self, alloc: Global, line: u32, names: &[&'a [u8]]) -> Result<(), BlifError>
         requires indexed { IsIndexed self.old }
         requires closed { self.old.current ≡ None }
-        ensures reads { Gives NoMemory (λ _. draft_of self.new) result (with_names line (draft_of self.old) (texts names.now)) }
+        ensures reads { Gives NoMemory (λ _. draft_of self.new) result
+            (with_names line (draft_of self.old) (texts names.now)) }
         ensures indexed { OnOk result (IsIndexed self.new) }
     {
         match names {
@@ -194,7 +201,8 @@ impl<'a> Reader<'a> {
 
     fn read_model(&mut self, alloc: Global, line: u32, names: &[&[u8]]) -> Result<(), BlifError>
         requires { IsIndexed self.old }
-        ensures reads { Gives NoMemory (λ _. draft_of self.new) result (with_model line (draft_of self.old) (texts names.now)) }
+        ensures reads { Gives NoMemory (λ _. draft_of self.new) result
+            (with_model line (draft_of self.old) (texts names.now)) }
         ensures indexed { OnOk result (IsIndexed self.new) }
     {
         if self.begun {
@@ -211,7 +219,8 @@ impl<'a> Reader<'a> {
 
     fn read_end(&mut self, line: u32, names: &[&[u8]]) -> Result<(), BlifError>
         requires { IsIndexed self.old }
-        ensures reads { Gives NoMemory (λ _. draft_of self.new) result (with_end line (draft_of self.old) (texts names.now)) }
+        ensures reads { Gives NoMemory (λ _. draft_of self.new) result
+            (with_end line (draft_of self.old) (texts names.now)) }
         ensures indexed { OnOk result (IsIndexed self.new) }
     {
         if !names.is_empty() {
@@ -223,7 +232,8 @@ impl<'a> Reader<'a> {
 
     fn read_row(&mut self, alloc: Global, line: u32, row: &[&[u8]]) -> Result<(), BlifError>
         requires { IsIndexed self.old }
-        ensures reads { Gives NoMemory (λ _. draft_of self.new) result (with_row_line line (draft_of self.old) (draft_of self.old).current (texts row.now)) }
+        ensures reads { Gives NoMemory (λ _. draft_of self.new) result
+            (with_row_line line (draft_of self.old) (draft_of self.old).current (texts row.now)) }
         ensures indexed { OnOk result (IsIndexed self.new) }
     {
         let Some(mut cover) = self.current.take() else {
@@ -245,7 +255,9 @@ impl<'a> Reader<'a> {
     ) -> Result<(), BlifError>
         requires indexed { IsIndexed self.old }
         requires some { 0 < length list.now }
-        ensures reads { Gives NoMemory (λ _. draft_of self.new) result (with_line kind line (draft_of self.old) (slice_index_or (texts list.now) 0 []) (drop 1 (texts list.now))) }
+        ensures reads { Gives NoMemory (λ _. draft_of self.new) result
+            (with_line kind line (draft_of self.old) (slice_index_or (texts list.now) 0 [])
+            (drop 1 (texts list.now))) }
         ensures indexed { OnOk result (IsIndexed self.new) }
     {
         if kind == LineKind::Row {
@@ -271,7 +283,8 @@ impl<'a> Reader<'a> {
         list: &[&'a [u8]],
     ) -> Result<(), BlifError>
         requires { IsIndexed self.old }
-        ensures reads { Gives NoMemory (λ _. draft_of self.new) result (with_words line (draft_of self.old) (texts list.now)) }
+        ensures reads { Gives NoMemory (λ _. draft_of self.new) result
+            (with_words line (draft_of self.old) (texts list.now)) }
         ensures indexed { OnOk result (IsIndexed self.new) }
     {
         if list.is_empty() {

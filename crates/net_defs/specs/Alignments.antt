@@ -10,11 +10,13 @@ use Rattle.net_defs.specs.Interfaces.{PlacePairs, StandAt}
 abbrev pub IsMoved : List ℕ → ℕ → ℕ → Type 0
 IsMoved places s t = (slice_get places t ≡ Some s) ⊎ ((length places ≤ s) × (t ≡ s))
 
+-- the node with its fan-ins moved
 pub record IsMovedNode (places : List ℕ) (node moved : Node) : Type 0 where
   pub fan_ins : AllZip (IsMoved places) node.fan_ins moved.fan_ins
   pub on : moved.on ≡ node.on
   pub rows : moved.rows ≡ node.rows
 
+-- the output with its signal moved
 pub record IsMovedOutput (places : List ℕ) (output moved : Output) : Type 0 where
   pub name : moved.name ≡ output.name
   pub signal : IsMoved places output.signal moved.signal

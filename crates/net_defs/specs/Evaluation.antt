@@ -18,6 +18,7 @@ hits [] values = true
 hits (m ∷ ms) [] = false
 hits (m ∷ ms) (b ∷ bs) = allows m b && hits ms bs
 
+-- some row of the node hits the values
 abbrev pub some_row_hits : Node → List ℕ → Bool
 some_row_hits node values = list_any (λ row. hits row values) node.rows
 

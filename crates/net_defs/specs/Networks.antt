@@ -9,6 +9,7 @@ pub record Node : Type 0 where
   pub on : Bool
   pub rows : List (List Mark)
 
+-- an output: its name, and the signal that it has
 pub record Output : Type 0 where
   pub name : List ℕ
   pub signal : ℕ

@@ -58,6 +58,7 @@ IsOutputFrom-unique n design places k a b r h i =
     ap (λ x. output x a.signal) (h.2.name ∙ ap (λ (o : Output). o.name) one ∙ sym i.2.name)
     ∙ ap (λ x. output b.name x) (IsMoved-unique n places i.0.signal a.signal b.signal r (subst P one h.2.signal) i.2.signal)
 
+-- one network has the inputs and outputs in this order
 pub IsAligned-unique : (design : Network) (p : PlacePairs) (net other : Network) → Pairs design p → IsAligned design p net → IsAligned design p other
     → net ≡ other
 IsAligned-unique design p net other pairs h k =
@@ -84,9 +85,11 @@ output_names-stand design places (k ∷ ks) (o ∷ os) h = (
   output_names-stand design places ks os h.1,
 )
 
+-- its inputs are those of the specification
 pub inputs-aligned : (spec design : Network) (p : PlacePairs) (net : Network) → IsPairing spec design p → IsAligned design p net → net.inputs ≡ spec.inputs
 inputs-aligned spec design p net h k = StandAt-unique design.inputs p.inputs net.inputs spec.inputs k.inputs h.inputs
 
+-- and its outputs have the specification's names
 pub output_names-aligned : (spec design : Network) (p : PlacePairs) (net : Network) → IsPairing spec design p → IsAligned design p net
     → output_names net ≡ output_names spec
 output_names-aligned spec design p net h k =
@@ -168,12 +171,15 @@ front_of list x n s e lt = sym (get_or-take n list s 0 lt) ∙ ap (λ l. get_or 
 pub inputs_count : (design : Network) (p : PlacePairs) (net : Network) → IsAligned design p net → length net.inputs ≡ length p.inputs
 inputs_count design p net h = StandAt-length design.inputs p.inputs net.inputs h.inputs
 
+-- there are as many nodes
 pub nodes_count : (design : Network) (p : PlacePairs) (net : Network) → IsAligned design p net → length net.nodes ≡ length design.nodes
 nodes_count design p net h = zip_length (IsMovedNode p.inputs) design.nodes net.nodes h.nodes
 
+-- and as many outputs as places
 pub outputs_count : (design : Network) (p : PlacePairs) (net : Network) → IsAligned design p net → length net.outputs ≡ length p.outputs
 outputs_count design p net h = zip_length (IsOutputFrom design.outputs p.inputs) p.outputs net.outputs h.outputs
 
+-- each node is the one of the design, moved
 pub node_at-aligned : (design : Network) (p : PlacePairs) (net : Network) (v : ℕ) → IsAligned design p net → v < length design.nodes
     → IsMovedNode p.inputs (node_at design v) (node_at net v)
 node_at-aligned design p net v h lt = zip_at (IsMovedNode p.inputs) design.nodes net.nodes v no_node no_node h.nodes lt

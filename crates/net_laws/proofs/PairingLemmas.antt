@@ -150,6 +150,7 @@ paired_outputs spec design inputs others h k =
     (places_or_missing (output_names spec) (output_names design)))
     (places_or_missing (output_names design) (output_names spec))
 
+-- two networks pair, or a name is the first without a partner
 pub interface_exists : (spec design : Network) → (answer : Result PlacePairs InterfaceError) × InterfaceOf spec design answer
 interface_exists spec design =
     ⊎_elim

@@ -75,8 +75,10 @@ spec_order_exists places u r size =
     let P : ℕ → Type 0 = λ n. All (λ k. k < n) places in
     (map (λ k. get_or u k 0) places, record { as_many = size; stand = StandAt-map u places (subst P (sym size) r.within) })
 
+-- one list in the design's order gives this one
 pub design_order_is_unique : (places x u v : List ℕ) → IsRearrangement (length places) places → IsReordered places u x → IsReordered places v x → u ≡ v
 design_order_is_unique places x u v r h k = StandAt-complete (length places) places u v x r h.as_many k.as_many h.stand k.stand
 
+-- and one in the specification's order is given
 pub spec_order_is_unique : (places u x y : List ℕ) → IsReordered places u x → IsReordered places u y → x ≡ y
 spec_order_is_unique places u x y h k = StandAt-unique u places x y h.stand k.stand

@@ -20,7 +20,8 @@ pub fn aligned_network_has_the_interface()
 
 /// It computes what the design does.
 pub fn aligned_network_has_the_outputs()
-    ensures { (design : Network) (p : PlacePairs) (net : Network) → Pairs design p → IsAligned design p net → HasOutputsOf design p net }
+    ensures { (design : Network) (p : PlacePairs) (net : Network) → Pairs design p
+        → IsAligned design p net → HasOutputsOf design p net }
 {}
 
 /// It is within the limits and acyclic where the design is.
@@ -32,10 +33,14 @@ pub fn aligned_network_is_a_net()
 /// Each list in one of the two orders is one list in the other.
 pub fn reordered_list_exists_and_is_unique()
     ensures in_design_order { (places x : List ℕ)
-        → IsRearrangement (length places) places → length x ≡ length places → (u : List ℕ) × IsReordered places u x }
+        → IsRearrangement (length places) places → length x ≡ length places
+        → (u : List ℕ) × IsReordered places u x }
     ensures in_spec_order { (places u : List ℕ)
-        → IsRearrangement (length places) places → length u ≡ length places → (x : List ℕ) × IsReordered places u x }
+        → IsRearrangement (length places) places → length u ≡ length places
+        → (x : List ℕ) × IsReordered places u x }
     ensures one_in_design_order { (places x u v : List ℕ)
-        → IsRearrangement (length places) places → IsReordered places u x → IsReordered places v x → u ≡ v }
-    ensures one_in_spec_order { (places u x y : List ℕ) → IsReordered places u x → IsReordered places u y → x ≡ y }
+        → IsRearrangement (length places) places → IsReordered places u x → IsReordered places v x
+        → u ≡ v }
+    ensures one_in_spec_order { (places u x y : List ℕ) → IsReordered places u x
+        → IsReordered places u y → x ≡ y }
 {}

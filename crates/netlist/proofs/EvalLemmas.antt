@@ -35,6 +35,7 @@ pub record Swept (net : Network) (nodes s a : List ℕ) : Type 0 where
   pub inputs : SameBits (length net.inputs) s a
   pub nodes_done : (v : ℕ) → Contains nodes v → get_or s (length net.inputs + v) 0 ≡ get_or a (length net.inputs + v) 0
 
+-- before the first node
 pub Swept-none : (net : Network) (order s a : List ℕ) → SameBits (length net.inputs) s a → Swept net (take 0 order) s a
 Swept-none net order s a h = record { inputs = h; nodes_done = λ v c. absurd (omega (arith, c.1)) }
 

@@ -16,6 +16,7 @@ slice_get-append_left xs ys i x h =
     slice_get-get_or (xs ++ ys) i x (omega (arith, length-append xs ys))
     ∙ ap Some (get_or_append_left xs ys x i lt ∙ get_or_from_slice_get xs i x x h)
 
+-- the last element stands at the end
 pub slice_get-push : {X : Type 0} (xs : List X) (y : X) → slice_get (xs ++ y ∷ []) (length xs) ≡ Some y
 slice_get-push xs y =
     slice_get-get_or (xs ++ y ∷ []) (length xs) y (omega (arith, length_push xs y)) ∙ ap Some (get_or_push xs y y (length xs) refl)
@@ -39,6 +40,7 @@ finds_next names y q answer true is h = finds_new names y q ((bytes_eq-Decides y
 finds_next names y q answer false is h =
     finds_other names y q answer (λ e. let yes : bytes_eq y q ≡ true = (bytes_eq-Decides y q).1 e in absurd cc) h
 
+-- an index with one name more
 pub IsIndexOf-push : (old new : NameIndex) (names : List (List ℕ)) (y : List ℕ) (n : ℕ) → length names ≡ n → IsIndexOf old names → PutsName old new y n
     → IsIndexOf new (names ++ y ∷ [])
 unfolding Finds
@@ -54,6 +56,7 @@ signals_of-push inputs covers c =
     ap (λ l. inputs ++ l) (map_push (λ (d : CoverValue). d.out) covers c)
     ∙ sym (append_assoc inputs (map (λ (d : CoverValue). d.out) covers) (c.out ∷ []))
 
+-- there are as many signals as inputs and covers
 pub length-signals_of : (inputs : List (List ℕ)) (covers : List CoverValue) → length (signals_of inputs covers) ≡ length inputs + length covers
 length-signals_of inputs covers =
     length-append inputs _ ∙ ap (λ n. length inputs + n) (length-map covers (λ (d : CoverValue). d.out))

@@ -136,6 +136,7 @@ NetworkOf-nodes b e h =
     let P : NetError → Type 0 = λ f. NetOf b (Err f) in
     ⊎_elim (λ memory. inl memory) (λ fault. inr (subst P (sym fault.2) fault.3)) h
 
+-- the fault of the outputs, where the nodes are made
 pub NetworkOf-outputs : (b : BlifValue) (nodes : List Node) (e : NetError) → AllZip (IsNodeOf b) b.covers nodes → OrMemory NoMemory (OutputsOf b) (Err e)
     → OrMemory NoMemory (NetworkOf b) (Err e)
 NetworkOf-outputs b nodes e made h =

@@ -91,6 +91,7 @@ pub record Begins (net : Network) (old states : List State) (left stack order : 
   pub bottom : 0 < length stack → get_or stack 0 0 ≡ root
   pub met : state_at states root ≡ New → ⊥
 
+-- the first node that is opened
 pub opened_first : (net : Network) (states : List State) (left stack order : List ℕ) (root : ℕ)
     → IsSorting net states left stack order → stack ≡ [] → root < length net.nodes → state_at states root ≡ New
     → Begins net states (set states root Open) left (stack ++ root ∷ []) order root

@@ -75,8 +75,10 @@ Contains-front xs n x e h ne =
     absurd (ne (sym h.2 ∙ ap (λ m. get_or xs m x) at ∙ get_or_default xs n x 0 (omega arith))))
     (cases_lt k n)
 
+-- a new node isn't done
 pub not_done_from_new : (states : List State) (v : ℕ) → state_at states v ≡ New → state_at states v ≡ Done → ⊥
 not_done_from_new states v h k = cc
 
+-- nor is an open one
 pub not_done_from_open : (states : List State) (v : ℕ) → state_at states v ≡ Open → state_at states v ≡ Done → ⊥
 not_done_from_open states v h k = cc

@@ -3,6 +3,7 @@ use Rattle.std.specs.Prelude.{◌≡◌, ℕ, ◌<◌, Bool, List, length, slice
 use Rattle.net_defs.specs.Networks.{Network, signals}
 use Rattle.net_defs.specs.Evaluation.{Settles}
 
+-- a truth value as a bit
 abbrev pub bit_of : Bool → ℕ
 bit_of b = if b then 1 else 0
 

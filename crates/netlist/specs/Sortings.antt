@@ -6,6 +6,7 @@ use Rattle.net_defs.specs.Orders.{ComesAfterFanIns}
 use Rattle.netlist.specs.declared.order.State.{State}
 use Rattle.netlist.specs.declared.order.State.TheVariants.{New, Open, Done}
 
+-- the node wasn't met yet
 abbrev pub is_new : State → Bool
 is_new New = true
 is_new Open = false

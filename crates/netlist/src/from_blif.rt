@@ -53,7 +53,8 @@ fn fan_ins_of(
     node: u32,
 ) -> Result<Vec<u32>, NetError>
     requires { length ins.now ≤ MAX_PORTS }
-    ensures { (b : BlifValue) → IsIndexOf index.now (signal_names b) → OrMemory NoMemory (FanInsOf b ins.now node) result }
+    ensures { (b : BlifValue) → IsIndexOf index.now (signal_names b)
+        → OrMemory NoMemory (FanInsOf b ins.now node) result }
 {
     let mut signals = Vec::with_capacity(alloc, ins.len())?;
     for (pin, name) in ins.iter().enumerate() {
@@ -76,7 +77,8 @@ fn node_of(
     node: u32,
 ) -> Result<NetNode, NetError>
     requires { length cover.now.ins ≤ MAX_PORTS }
-    ensures { (b : BlifValue) → IsIndexOf index.now (signal_names b) → OrMemory NoMemory (NodeOf b (cover_of cover.now) node) result }
+    ensures { (b : BlifValue) → IsIndexOf index.now (signal_names b)
+        → OrMemory NoMemory (NodeOf b (cover_of cover.now) node) result }
 {
     let fan_ins = fan_ins_of(alloc, index, cover.ins.as_slice(), node)?;
     let rows = copies_of_rows(alloc, cover.rows.as_slice())?;
@@ -95,7 +97,8 @@ fn nodes_of(
 ) -> Result<Vec<NetNode>, NetError>
     requires few { length covers.now ≤ MAX_SIGNALS }
     requires short { All (λ (cover : Cover). length cover.ins ≤ MAX_PORTS) covers.now }
-    ensures { (b : BlifValue) → IsIndexOf index.now (signal_names b) → b.covers ≡ map cover_of covers.now → OrMemory NoMemory (NodesOf b) result }
+    ensures { (b : BlifValue) → IsIndexOf index.now (signal_names b)
+        → b.covers ≡ map cover_of covers.now → OrMemory NoMemory (NodesOf b) result }
 {
     let mut nodes = Vec::with_capacity(alloc, covers.len())?;
     for (v, cover) in covers.iter().enumerate() {
@@ -111,7 +114,8 @@ fn outputs_of(
     names: &[Name],
 ) -> Result<Vec<NetOutput>, NetError>
     requires { length names.now ≤ MAX_PORTS }
-    ensures { (b : BlifValue) → IsIndexOf index.now (signal_names b) → b.outputs ≡ names.now → OrMemory NoMemory (OutputsOf b) result }
+    ensures { (b : BlifValue) → IsIndexOf index.now (signal_names b) → b.outputs ≡ names.now
+        → OrMemory NoMemory (OutputsOf b) result }
 {
     let mut outputs = Vec::with_capacity(alloc, names.len())?;
     for (o, name) in names.iter().enumerate() {
@@ -129,7 +133,8 @@ fn outputs_of(
 /// The network of the design, with signals in place of names.
 fn network_of(alloc: Global, index: &NameIndex<'_>, b: &Blif) -> Result<Network, NetError>
     requires { IsBlif (blif_of b.now) }
-    ensures { IsIndexOf index.now (signal_names (blif_of b.now)) → OrMemory NoMemory (NetworkOf (blif_of b.now)) result }
+    ensures { IsIndexOf index.now (signal_names (blif_of b.now))
+        → OrMemory NoMemory (NetworkOf (blif_of b.now)) result }
 {
     let nodes = nodes_of(alloc, index, b.covers.as_slice())?;
     let outputs = outputs_of(alloc, index, b.outputs.as_slice())?;

@@ -69,7 +69,8 @@ impl Moves {
 
     /// What the fan-ins come to.
     fn fan_ins(&self, alloc: Global, fan_ins: &[u32]) -> Result<Vec<u32>, NoMemory>
-        ensures { IfOk result (λ moved. (places : List ℕ) → IsInverse places self.now → AllZip (IsMoved places) fan_ins.now moved.items) }
+        ensures { IfOk result (λ moved. (places : List ℕ) → IsInverse places self.now
+            → AllZip (IsMoved places) fan_ins.now moved.items) }
     {
         let mut moved = Vec::with_capacity(alloc, fan_ins.len())?;
         for s in fan_ins {
@@ -80,7 +81,8 @@ impl Moves {
 
     /// The node with its fan-ins moved.
     fn node(&self, alloc: Global, node: &NetNode) -> Result<NetNode, NoMemory>
-        ensures { IfOk result (λ moved. (places : List ℕ) → IsInverse places self.now → IsMovedNode places node.now moved) }
+        ensures { IfOk result (λ moved. (places : List ℕ) → IsInverse places self.now
+            → IsMovedNode places node.now moved) }
     {
         Ok(NetNode {
             fan_ins: self.fan_ins(alloc, node.fan_ins())?,
@@ -91,7 +93,8 @@ impl Moves {
 
     /// The nodes with their fan-ins moved.
     pub(crate) fn nodes(&self, alloc: Global, nodes: &[NetNode]) -> Result<Vec<NetNode>, NoMemory>
-        ensures { IfOk result (λ moved. (places : List ℕ) → IsInverse places self.now → AllZip (IsMovedNode places) nodes.now moved.items) }
+        ensures { IfOk result (λ moved. (places : List ℕ) → IsInverse places self.now
+            → AllZip (IsMovedNode places) nodes.now moved.items) }
     {
         let mut moved = Vec::with_capacity(alloc, nodes.len())?;
         for node in nodes {
@@ -102,7 +105,8 @@ impl Moves {
 
     /// The output with its signal moved.
     fn output(&self, alloc: Global, output: &NetOutput) -> Result<NetOutput, NoMemory>
-        ensures { IfOk result (λ moved. (places : List ℕ) → IsInverse places self.now → IsMovedOutput places output.now moved) }
+        ensures { IfOk result (λ moved. (places : List ℕ) → IsInverse places self.now
+            → IsMovedOutput places output.now moved) }
     {
         Ok(NetOutput {
             name: copy_of_name(alloc, &output.name)?,
@@ -118,7 +122,8 @@ impl Moves {
         order: &[u32],
     ) -> Result<Vec<NetOutput>, NoMemory>
         requires { All (λ k. k < length outputs.now) order.now }
-        ensures { IfOk result (λ moved. (places : List ℕ) → IsInverse places self.now → AllZip (IsOutputFrom outputs.now places) order.now moved.items) }
+        ensures { IfOk result (λ moved. (places : List ℕ) → IsInverse places self.now
+            → AllZip (IsOutputFrom outputs.now places) order.now moved.items) }
     {
         let mut moved = Vec::with_capacity(alloc, order.len())?;
         for place in order {

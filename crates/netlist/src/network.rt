@@ -124,7 +124,8 @@ impl Network {
     /// How many pins each node has.
     pub(crate) fn pin_counts(&self, alloc: Global) -> Result<Vec<u32>, AllocError>
         requires { HasShortNodes self.now }
-        ensures { IfOk result (λ v. v.items ≡ map (λ (node : Node). length node.fan_ins) self.now.nodes) }
+        ensures { IfOk result (λ v. v.items ≡ map
+            (λ (node : Node). length node.fan_ins) self.now.nodes) }
     {
         let nodes = self.nodes();
         let mut counts = Vec::with_capacity(alloc, nodes.len())?;

@@ -93,8 +93,10 @@ impl Sorting {
         ensures sound { IfOk result (λ b. b ≡ true → IsSound network.now self.new) }
         ensures empty { IfOk result (λ b. b ≡ true → self.new.stack.items ≡ []) }
         ensures done { IfOk result (λ b. b ≡ true → state_at self.new.states.items root ≡ Done) }
-        ensures stays { IfOk result (λ b. b ≡ true → StaysDone self.old.states.items self.new.states.items) }
-        ensures unsettled { IfOk result (λ b. b ≡ false → (k : ℕ) → Settled network.now k root → ⊥) }
+        ensures stays { IfOk result (λ b. b ≡ true
+            → StaysDone self.old.states.items self.new.states.items) }
+        ensures unsettled { IfOk result (λ b. b ≡ false → (k : ℕ) → Settled network.now k root
+            → ⊥) }
     {
         if !self.is_new(root) {
             return Ok(true);
@@ -120,7 +122,8 @@ impl Sorting {
     /// Puts a node on the stack.
     fn open(&mut self, v: u32) -> Result<(), AllocError>
         requires { v < length self.old.states.items }
-        ensures states { OnOk result (self.new.states.items ≡ slice_set self.old.states.items v Open) }
+        ensures states { OnOk result
+            (self.new.states.items ≡ slice_set self.old.states.items v Open) }
         ensures left { OnOk result (self.new.left.items ≡ self.old.left.items) }
         ensures stack { OnOk result (self.new.stack.items ≡ self.old.stack.items ++ v ∷ []) }
         ensures order { OnOk result (self.new.order.items ≡ self.old.order.items) }
@@ -134,9 +137,11 @@ impl Sorting {
     fn close(&mut self, v: u32) -> Result<(), AllocError>
         requires within { v < length self.old.states.items }
         requires stacked { 0 < length self.old.stack.items }
-        ensures states { OnOk result (self.new.states.items ≡ slice_set self.old.states.items v Done) }
+        ensures states { OnOk result
+            (self.new.states.items ≡ slice_set self.old.states.items v Done) }
         ensures left { OnOk result (self.new.left.items ≡ self.old.left.items) }
-        ensures stack { OnOk result (self.new.stack.items ≡ take (length self.old.stack.items - 1) self.old.stack.items) }
+        ensures stack { OnOk result (self.new.stack.items ≡ take
+            (length self.old.stack.items - 1) self.old.stack.items) }
         ensures order { OnOk result (self.new.order.items ≡ self.old.order.items ++ v ∷ []) }
     {
         self.order.push(v)?;
@@ -154,11 +159,14 @@ impl Sorting {
         requires last { slice_index self.old.stack.items (length self.old.stack.items - 1) ≡ v }
         ensures sound { OnOk result (IsSound network.now self.new) }
         ensures stays { OnOk result (StaysDone self.old.states.items self.new.states.items) }
-        ensures bottom { OnOk result (0 < length self.new.stack.items → slice_index self.new.stack.items 0 ≡ slice_index self.old.stack.items 0) }
-        ensures met { OnOk result ((u : ℕ) → state_at self.new.states.items u ≡ New → state_at self.old.states.items u ≡ New) }
+        ensures bottom { OnOk result (0 < length self.new.stack.items
+            → slice_index self.new.stack.items 0 ≡ slice_index self.old.stack.items 0) }
+        ensures met { OnOk result ((u : ℕ) → state_at self.new.states.items u ≡ New
+            → state_at self.old.states.items u ≡ New) }
         ensures less { IfOk result (λ b. b ≡ true → work_of self.new < work_of self.old) }
         ensures stack { IfOk result (λ b. b ≡ false → self.new.stack.items ≡ self.old.stack.items) }
-        ensures cycle { IfOk result (λ b. b ≡ false → (k u : ℕ) → state_at self.new.states.items u ≡ Open → Settled network.now k u → ⊥) }
+        ensures cycle { IfOk result (λ b. b ≡ false → (k u : ℕ)
+            → state_at self.new.states.items u ≡ Open → Settled network.now k u → ⊥) }
     {
         let pins = self.left[v as usize];
         if pins == 0 {

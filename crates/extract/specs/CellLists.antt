@@ -7,7 +7,8 @@ use Rattle.cell_defs.specs.Cells.{CellValue, no_cell}
 abbrev pub cells_of : List (List Source) → List ℕ → List CellValue
 cells_of [] tables = []
 cells_of (pins ∷ rest) [] = []
-cells_of (pins ∷ rest) (table ∷ tables) = record { pins = pins; table = table } ∷ cells_of rest tables
+cells_of (pins ∷ rest) (table ∷ tables) =
+    record { pins = pins; table = table } ∷ cells_of rest tables
 
 -- cell k of a list
 abbrev pub listed_cell : List CellValue → ℕ → CellValue

@@ -7,7 +7,8 @@ use Rattle.cell_defs.specs.Cones.{HasCone}
 
 -- the cells of a fabric of this geometry, by their parts
 abbrev pub cells_with : GeometryValue → List CellValue → List Source → List Bool → CellsValue
-cells_with g cells outputs cone = record { geometry = g; cells = cells; outputs = outputs; cone = cone }
+cells_with g cells outputs cone =
+    record { geometry = g; cells = cells; outputs = outputs; cone = cone }
 
 -- the cells of a fabric with their cone
 pub record AreCellsWithCone (whole : CellsValue) : Type 0 where

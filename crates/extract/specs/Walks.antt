@@ -11,7 +11,8 @@ use Rattle.cell_defs.specs.Sources.{tapped_source, track_source, cell_of}
 -- the sources of the tracks of channel c
 pub record IsChannel (config : ConfigValue) (c : ℕ) (tracks : List Source) : Type 0 where
   pub count : length tracks ≡ config.geometry.tracks
-  pub each : (t : ℕ) → t < config.geometry.tracks → slice_index_or tracks t Zero ≡ track_source config c t
+  pub each : (t : ℕ) → t < config.geometry.tracks
+      → slice_index_or tracks t Zero ≡ track_source config c t
 
 -- where each word listens among the tracks
 abbrev pub tapped_sources : List Source → List ℕ → List Source

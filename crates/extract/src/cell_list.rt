@@ -1,5 +1,5 @@
-//! Cells in a list: the sources of the pins of all of them stand one after another in one array, so that
-//! no cell has memory of its own. A cell may have any number of pins and listen to any cells.
+//! Cells in a list: the sources of the pins of all of them stand one after another in one array, so
+//! that no cell has memory of its own. A cell may have any number of pins and listen to any cells.
 
 ghost use Rattle.std.specs.Prelude.{◌≡◌, ◌+◌, ◌^◌, ◌<◌, ◌++◌, [], ◌∷◌, length, IfOk, OnOk, OnErr};
 ghost use Rattle.extract.specs.CellLists.{listed_cell, pins_in};
@@ -14,8 +14,8 @@ use std::marker::Model;
 pub struct Cell<'a> {
     /// The source of each pin, pin 0 first.
     pub pins: &'a [Source],
-    /// Bit k of it, the least bit being bit 0, is the output where bit j of the number k is the bit of
-    /// pin j.
+    /// Bit k of it, the least bit being bit 0, is the output where bit j of the number k is the bit
+    /// of pin j.
     pub table: u64,
 }
 
@@ -52,10 +52,10 @@ impl CellList {
     }
 
     /// How many cells there are.
-    pub fn len(&self) -> usize
+    pub fn len(&self) -> u32
         ensures { result ≡ length self.now }
     {
-        self.tables.len()
+        self.pins.len()
     }
 
     /// Cell `k`, counted from 0.
@@ -74,7 +74,8 @@ impl CellList {
     pub fn push(&mut self, pins: &[Source], table: u64) -> Result<(), AllocError>
         requires few_pins { pins_in self.old + length pins.now < 2 ^ 32 }
         requires few_cells { length self.old + 1 < 2 ^ 32 }
-        ensures ok { OnOk result (self.new ≡ self.old ++ record { pins = pins.now; table = table } ∷ []) }
+        ensures ok { OnOk result
+            (self.new ≡ self.old ++ record { pins = pins.now; table = table } ∷ []) }
         ensures err { OnErr result (self.new ≡ self.old) }
     {
         self.tables.reserve(1)?;

@@ -1,5 +1,5 @@
-//! The cells of a fabric with the sources of its output pads and the cone, and the questions that are
-//! asked of them.
+//! The cells of a fabric with the sources of its output pads and the cone, and the questions that
+//! are asked of them.
 
 ghost use Rattle.std.specs.Prelude.{◌≡◌, ◌<◌, slice_get, Some};
 ghost use Rattle.fabric_defs.specs.Geometries.{cell_count, pin_count};
@@ -37,7 +37,8 @@ impl Model for Cells {
 
     ghost view = { λ c. cells_with c.geometry c.cells c.outputs.items c.cone.items };
 
-    ghost invariant = { λ c. AreCellsWithCone (cells_with c.geometry c.cells c.outputs.items c.cone.items) };
+    ghost invariant = { λ c. AreCellsWithCone
+        (cells_with c.geometry c.cells c.outputs.items c.cone.items) };
 }
 
 impl Cells {
@@ -88,8 +89,8 @@ impl Cells {
         self.outputs[pad as usize]
     }
 
-    /// Whether a cell is in the cone: the least set of cells that has the cells to which output pads
-    /// listen, and the cells to which pins of its members listen.
+    /// Whether a cell is in the cone: the least set of cells that has the cells to which output
+    /// pads listen, and the cells to which pins of its members listen.
     pub fn in_cone(&self, cell: u32) -> bool
         requires { cell < cell_count self.now.geometry }
         ensures value { result ≡ in_cone self.now cell }

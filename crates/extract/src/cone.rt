@@ -1,5 +1,5 @@
-//! The cone. Cells listen to lower numbers only, so one pass from the last cell to the first finds all:
-//! when a cell is passed, all cells that may listen to it have been.
+//! The cone. Cells listen to lower numbers only, so one pass from the last cell to the first finds
+//! all: when a cell is passed, all cells that may listen to it have been.
 
 ghost use Rattle.std.specs.Prelude.{◌≡◌, ℕ, ◌<◌, ◌↔◌, ◌⊎◌, Bool, List, length, IfOk};
 ghost use Rattle.clause_defs.specs.Clauses.{Has};
@@ -18,7 +18,8 @@ use std::alloc::{AllocError, Global};
 fn mark_cells(cone: &mut Vec<bool>, sources: &[Source])
     requires { AreCellsBelow (length cone.old.items) sources.now }
     ensures cells { length cone.new.items ≡ length cone.old.items }
-    ensures marks { (n : ℕ) → IsMarked cone.new.items n ↔ (IsMarked cone.old.items n ⊎ Has sources.now (Cell n)) }
+    ensures marks { (n : ℕ) → IsMarked cone.new.items n
+        ↔ (IsMarked cone.old.items n ⊎ Has sources.now (Cell n)) }
 {
     for source in sources {
         if let Source::Cell(cell) = *source {

@@ -1,5 +1,5 @@
-//! The sources of pins and output pads. The columns are passed from the first to the last; what is kept
-//! between them are the sources of the tracks of one channel, and the cells so far.
+//! The sources of pins and output pads. The columns are passed from the first to the last; what is
+//! kept between them are the sources of the tracks of one channel, and the cells so far.
 
 ghost use Rattle.std.specs.Prelude.{◌≡◌, ◌+◌, ◌<◌, ◌≤◌, Bool, List, [], length, All, slice_index_or, IfOk, OnOk};
 ghost use Rattle.cell_defs.specs.declared.source.Source.TheVariants.{Zero};

@@ -5,8 +5,9 @@ use Rattle.fabric_defs.specs.Wirings.{Wiring, Wired, channel}
 
 -- 0 for off, and after it the bits of the tracks of this channel
 abbrev pub HasChannel : ConfigValue → List ℕ → ℕ → List ℕ → Type 0
-HasChannel k x c tracks = (w : Wiring) → Wired k x w → tracks ≡ 0 ∷ channel w c
+HasChannel config x c tracks = (w : Wiring) → Wired config x w → tracks ≡ 0 ∷ channel w c
 
 -- the bits of the cells below this number
 abbrev pub HasCells : ConfigValue → List ℕ → ℕ → List ℕ → Type 0
-HasCells k x count cells = (w : Wiring) → Wired k x w → (n : ℕ) → n < count → slice_index cells n ≡ slice_index w.cells n
+HasCells config x count cells = (w : Wiring) → Wired config x w
+    → (n : ℕ) → n < count → slice_index cells n ≡ slice_index w.cells n

@@ -10,8 +10,10 @@ use Rattle.fabric_defs.specs.declared.faults.ConfigError.TheVariants.{Selector}
 abbrev pub AreAtMost : ℕ → List ℕ → ℕ → ℕ → Type 0
 AreAtMost most words from to = (i : ℕ) → from ≤ i → i < to → slice_index words i ≤ most
 
--- the fault names the first word above the greatest value that words from one place on, up to another, may have
-pub record NamesFirstAbove (most : ℕ) (words : List ℕ) (from to : ℕ) (error : ConfigError) : Type 0 where
+-- the fault names the first word above the greatest value that words from one place on, up to
+-- another, may have
+pub record NamesFirstAbove (most : ℕ) (words : List ℕ) (from to : ℕ) (error : ConfigError)
+    : Type 0 where
   pub place : ℕ
   pub named : error ≡ Selector (2 * place)
   pub after : from ≤ place
@@ -25,4 +27,5 @@ AreInRange g words to = (i : ℕ) → i < to → slice_index words i ≤ slice_i
 
 -- the fault names the first word that isn't in its range
 abbrev pub NamesFirst : GeometryValue → List ℕ → ConfigError → Type 0
-NamesFirst g words error = (place : ℕ) × (error ≡ Selector (2 * place)) × IsFirstAbove (limits g) words place
+NamesFirst g words error =
+    (place : ℕ) × (error ≡ Selector (2 * place)) × IsFirstAbove (limits g) words place

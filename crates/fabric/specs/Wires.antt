@@ -2,6 +2,7 @@
 use Rattle.std.specs.Prelude.{ℕ, List}
 use Rattle.fabric_defs.specs.Geometries.{GeometryValue}
 
+-- the fabric that was evaluated, and the bit of each of its cells
 pub record WiresValue : Type 0 where
   pub geometry : GeometryValue
   pub cells : List ℕ

@@ -1,3 +1,5 @@
+//! Bits that are written and read by their places, a byte for each: an evaluation does nothing else.
+
 ghost use Rattle.std.specs.Prelude.{◌≡◌, ◌<◌, length, slice_index, slice_set, IfOk};
 ghost use Rattle.fabric.specs.BitArrays.{bit_of};
 

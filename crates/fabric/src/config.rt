@@ -1,5 +1,5 @@
-//! Configurations. What comes in are words; what goes out are those of each part of the fabric, so that
-//! nobody else counts their places.
+//! Configurations. What comes in are words; what goes out are those of each part of the fabric, so
+//! that nobody else counts their places.
 
 ghost use Rattle.std.specs.Prelude.{◌≡◌, ◌+◌, ◌*◌, ◌<◌, ◌≤◌, vec_len, length, All};
 ghost use Rattle.fabric_defs.specs.Geometries.{pin_count};
@@ -15,11 +15,11 @@ use std::marker::Model;
 ///
 /// The words stand in this order: for each track of channel 0, off (0) or an input pad (its number
 /// plus 1); then for each column its cells, and after them the tracks of the next channel; then for
-/// each output pad, off or a track of the last channel. A cell has a word for each pin, pin 0 first: off,
-/// or a track of the channel before the column; and after them the words of its table, the most
-/// significant one first: bit k of the table is the output where the pins, pin 0 being the least bit,
-/// spell the number k. A track after a column is off (0), keeps the same track of the channel before
-/// (1), or takes the cell of a row (the row plus 2).
+/// each output pad, off or a track of the last channel. A cell has a word for each pin, pin 0
+/// first: off, or a track of the channel before the column; and after them the words of its table,
+/// the most significant one first: bit k of the table is the output where the pins, pin 0 being the
+/// least bit, spell the number k. A track after a column is off (0), keeps the same track of the
+/// channel before (1), or takes the cell of a row (the row plus 2).
 #[derive(Debug, Drop)]
 pub struct Config {
     geometry: Geometry,
@@ -92,8 +92,8 @@ impl Config {
         &words[..count]
     }
 
-    /// The words of the pins of the cell at a column and a row, pin 0 first: off (0), or a track of the
-    /// channel before the column (its number plus 1).
+    /// The words of the pins of the cell at a column and a row, pin 0 first: off (0), or a track of
+    /// the channel before the column (its number plus 1).
     pub fn pins(&self, column: u32, row: u32) -> &[u16]
         requires column { column < self.now.geometry.columns }
         requires row { row < self.now.geometry.rows }
@@ -114,8 +114,8 @@ impl Config {
         self.table_in(self.geometry(), column, row)
     }
 
-    /// The words of the tracks of the channel after a column: off (0), kept (1), or the cell of a row of
-    /// the column (the row plus 2).
+    /// The words of the tracks of the channel after a column: off (0), kept (1), or the cell of a
+    /// row of the column (the row plus 2).
     pub fn channel_after(&self, column: u32) -> &[u16]
         requires { column < self.now.geometry.columns }
         ensures value { result.now ≡ track_words self.now column }
@@ -140,8 +140,8 @@ impl Config {
         &words[place..place + g.o() as usize]
     }
 
-    /// As `pins`, for a caller that knows the geometry: where it is made with a fixed kind, places are
-    /// counted by fixed numbers.
+    /// As `pins`, for a caller that knows the geometry: where it is made with a fixed kind, places
+    /// are counted by fixed numbers.
     #[inline(always)]
     pub(crate) fn pins_in(&self, g: Geometry, column: u32, row: u32) -> &[u16]
         requires geometry { g ≡ self.now.geometry }

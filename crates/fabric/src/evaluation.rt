@@ -1,8 +1,8 @@
-//! The bits that a configured fabric computes. The columns are passed from the first to the last; what
-//! is kept between them are the bits of one channel, and the bits of all cells so far.
+//! The bits that a configured fabric computes. The columns are passed from the first to the last;
+//! what is kept between them are the bits of one channel, and the bits of all cells so far.
 //!
-//! Cells are computed by a pass of their own for each kind, which is written once and gets the kind as a
-//! fixed value: so the loop over the pins of a cell has a fixed end.
+//! Cells are computed by a pass of their own for each kind, which is written once and gets the kind
+//! as a fixed value: so the loop over the pins of a cell has a fixed end.
 
 ghost use Rattle.std.specs.Prelude.{◌≡◌, ℕ, ◌+◌, ◌-◌, ◌*◌, ◌^◌, ◌<◌, ◌≤◌, List, length, map, All, slice_index};
 ghost use Rattle.pch_base.specs.BitLists.{word_of};
@@ -56,8 +56,8 @@ fn pins_number(pins: &[u16], tracks: &BitArray) -> u32
     number
 }
 
-/// The bit of the cell at a column and a row, where the tracks have the bits of the channel before the
-/// column.
+/// The bit of the cell at a column and a row, where the tracks have the bits of the channel before
+/// the column.
 #[inline(always)]
 fn cell_bit(config: &Config, g: Geometry, column: u32, row: u32, tracks: &BitArray) -> bool
     requires geometry { g ≡ config.now.geometry }
@@ -118,7 +118,8 @@ fn put_cells(config: &Config, column: u32, tracks: &BitArray, cells: &mut BitArr
 /// The bit that a track takes after a column whose first cell has the number `first`.
 fn switched_bit(word: u16, before: bool, first: u32, cells: &BitArray) -> bool
     requires { first + (word - 2) < length cells.now }
-    ensures { bit_of result ≡ switched_bit (bit_of before) (λ row. slice_index cells.now (first + row)) word }
+    ensures { bit_of result
+        ≡ switched_bit (bit_of before) (λ row. slice_index cells.now (first + row)) word }
 {
     // A cell is read whatever the word is, so that no branch has to guess the word.
     let cell = cells.get(first as usize + usize::from(word.saturating_sub(2)));
@@ -146,8 +147,8 @@ fn switch_tracks(config: &Config, column: u32, cells: &BitArray, tracks: &mut Bi
 /// The bits of the output pads, where the tracks have the bits of the last channel.
 fn output_bits(config: &Config, tracks: &BitArray) -> Bits
     requires { length tracks.now ≡ config.now.geometry.tracks + 1 }
-    ensures { (x : List ℕ) (w : Wiring) → HasChannel config.now x config.now.geometry.columns tracks.now
-        → Wired config.now x w → result ≡ pad_bits config.now w }
+    ensures { (x : List ℕ) (w : Wiring)
+        → HasChannel config.now x config.now.geometry.columns tracks.now → Wired config.now x w → result ≡ pad_bits config.now w }
 {
     let words = config.output_pads();
     let count = config.geometry().o();
@@ -184,7 +185,8 @@ pub fn eval(config: &Config, x: Bits, w: &mut Wires) -> Bits
     requires wires { w.old.geometry ≡ config.now.geometry }
     ensures outputs { FabOut config.now x result }
     ensures geometry { w.new.geometry ≡ w.old.geometry }
-    ensures cells { (n : ℕ) → n < cell_count config.now.geometry → CellBit config.now x n (slice_index w.new.cells n) }
+    ensures cells { (n : ℕ) → n < cell_count config.now.geometry
+        → CellBit config.now x n (slice_index w.new.cells n) }
 {
     sweep(config, x, &mut w.tracks, &mut w.cells)
 }

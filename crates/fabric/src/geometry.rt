@@ -1,5 +1,5 @@
-//! The numbers of a fabric and the kind of its cells. How many pins a cell has and how many words its
-//! table follows from the kind alone. The places of words are counted here and nowhere else.
+//! The numbers of a fabric and the kind of its cells. How many pins a cell has and how many words
+//! its table follows from the kind alone. The places of words are counted here and nowhere else.
 
 ghost use Rattle.std.specs.Prelude.{◌≡◌, ◌≤◌, ◌<◌, ◌+◌, ◌*◌, ◌^◌, ◌↔◌, IsTrue, IsSome, IfSome};
 ghost use Rattle.fabric_defs.specs.Kinds.{kind_number};
@@ -38,7 +38,8 @@ impl Model for Geometry {
 
     ghost view = { λ g. geometry_of g.kind g.columns g.rows g.tracks g.input_pads g.output_pads };
 
-    ghost invariant = { λ g. IsGeometry (geometry_of g.kind g.columns g.rows g.tracks g.input_pads g.output_pads) };
+    ghost invariant = { λ g. IsGeometry
+        (geometry_of g.kind g.columns g.rows g.tracks g.input_pads g.output_pads) };
 
     ghost inverse = { λ g. record {
       kind = g.kind;

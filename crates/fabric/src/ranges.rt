@@ -1,6 +1,6 @@
-//! Words that are judged from the left on: what comes in are a geometry and as many words as it wants,
-//! what goes out is the first word that is out of its range, if there is one. The words of tables may be
-//! any, and are passed over.
+//! Words that are judged from the left on: what comes in are a geometry and as many words as it
+//! wants, what goes out is the first word that is out of its range, if there is one. The words of
+//! tables may be any, and are passed over.
 
 ghost use Rattle.std.specs.Prelude.{◌≡◌, ◌≤◌, ◌<◌, ◌+◌, ◌^◌, length, IfErr, OnOk};
 ghost use Rattle.fabric_defs.specs.Layout.{word_count, column_place};

@@ -11,9 +11,9 @@ const INVERTER: [u16; 8] = [1, 1, 0, 0, 0, 0x5555, 2, 1];
 /// The same with a cell of six inputs.
 const SIX_INVERTER: [u16; 13] = [1, 1, 0, 0, 0, 0, 0, 0x5555, 0x5555, 0x5555, 0x5555, 2, 1];
 
-/// Two columns of one cell of six inputs. The tracks of channel 0 have the input pads a, b and c. Cell 0
-/// has the pins a, b, off, off, c and b; channel 1 has cell 0 in place of a. Cell 1 has the pins c, off,
-/// cell 0, off, b and cell 0 once more. The output pads have cell 1 and cell 0.
+/// Two columns of one cell of six inputs. The tracks of channel 0 have the input pads a, b and c.
+/// Cell 0 has the pins a, b, off, off, c and b; channel 1 has cell 0 in place of a. Cell 1 has the
+/// pins c, off, cell 0, off, b and cell 0 once more. The output pads have cell 1 and cell 0.
 const TWO_COLUMNS: [u16; 31] = [
     1, 2, 3, 1, 2, 0, 0, 3, 2, 0x00f0, 0x0005, 0x000a, 0x000f, 2, 1, 1, 3, 0, 1, 0, 2, 1, 0x0021,
     0x0032, 0x0001, 0x0012, 1, 2, 1, 2, 1,

@@ -1,3 +1,5 @@
+//! Room for one evaluation, which is taken once: `eval` fills it, and leaves the bits of the cells behind.
+
 ghost use Rattle.std.specs.Prelude.{◌≡◌, ◌<◌, slice_index, if◌then◌else◌, IfOk};
 ghost use Rattle.fabric_defs.specs.Geometries.{cell_count};
 
@@ -7,10 +9,11 @@ use pch_base::NoMemory;
 use std::alloc::Global;
 use std::marker::Model;
 
-/// Places for the bits of a fabric, which `eval` fills. Contracts see the geometry and the bits of the
-/// cells, each the number 0 or 1.
+/// Places for the bits of a fabric, which `eval` fills. Contracts see the geometry and the bits of
+/// the cells, each the number 0 or 1.
 #[derive(Debug, Drop)]
 pub struct Wires {
+    /// The fabric that has as many tracks and cells.
     geometry: Geometry,
     /// Place 0 stands for off, and place t + 1 has track t of one channel.
     pub(crate) tracks: BitArray,
@@ -27,7 +30,8 @@ impl Model for Wires {
 
     ghost view = { λ w. record { geometry = w.geometry; cells = w.cells } };
 
-    ghost invariant = { λ w. (length w.tracks ≡ w.geometry.tracks + 1) × (length w.cells ≡ cell_count w.geometry) };
+    ghost invariant = { λ w. (length w.tracks ≡ w.geometry.tracks + 1)
+        × (length w.cells ≡ cell_count w.geometry) };
 }
 
 impl Wires {

@@ -1,5 +1,5 @@
-//! The bytes of a configuration: its words in their order, each as two bytes, the more significant one
-//! first. What is printed is read again, and what was read is printed again.
+//! The bytes of a configuration: its words in their order, each as two bytes, the more significant
+//! one first. What is printed is read again, and what was read is printed again.
 #![tactic(auto)]
 
 mod printing;

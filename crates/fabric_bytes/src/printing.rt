@@ -12,7 +12,8 @@ use std::alloc::Global;
 /// The bytes of the words of a configuration.
 pub fn print_config(alloc: Global, config: &Config) -> Result<Vec<u8>, NoMemory>
     ensures bytes { IfOk result (λ b. b.items ≡ bytes_of config.now.words) }
-    ensures read_again { IfOk result (λ b. ConfigOf config.now.geometry (length b.items) (words_in b.items) (Ok config.now)) }
+    ensures read_again { IfOk result (λ b. let bytes = length b.items in
+        ConfigOf config.now.geometry bytes (words_in b.items) (Ok config.now)) }
 {
     let words = config.words();
     let mut bytes = Vec::with_capacity(alloc, 2 * words.len())?;

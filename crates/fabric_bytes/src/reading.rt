@@ -31,9 +31,9 @@ fn read_words(alloc: Global, b: &[u8]) -> Result<Vec<u16>, AllocError>
     Ok(words)
 }
 
-/// The configuration that the bytes spell, or their first fault: `Length` where there aren't as many
-/// bytes as the geometry wants; else `Selector` with the place of the first word out of its range; and
-/// `NoMemory` where memory was wanting.
+/// The configuration that the bytes spell, or their first fault: `Length` where there aren't as
+/// many bytes as the geometry wants; else `Selector` with the place of the first word out of its
+/// range; and `NoMemory` where memory was wanting.
 pub fn read_config(alloc: Global, g: Geometry, b: &[u8]) -> Result<Config, ConfigError>
     ensures exact { OrMemory NoMemory (ConfigOf g (length b.now) (words_in b.now)) result }
     ensures printed_again { IfOk result (λ config. bytes_of config.words ≡ b.now) }

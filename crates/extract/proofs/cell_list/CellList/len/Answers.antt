@@ -5,4 +5,4 @@ use Rattle.extract.proofs.cell_list.CellList.len.Goals as goal
 pub returns : goal.returns
 returns c =
     let i = c.self.inside in
-    omega (arith, c.len.ensures, i.tables.ok, ap length c.self.view_is, length-cells_of i.pins.lists i.tables.items c.self.invariant)
+    omega (arith, c.len.ensures, c.self.invariant, ap length c.self.view_is, length-cells_of i.pins.lists i.tables.items c.self.invariant)

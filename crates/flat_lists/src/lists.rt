@@ -119,7 +119,9 @@ impl<T: Copy> FlatLists<T> {
     /// Takes the last list away. Its room stays.
     pub fn pop(&mut self)
         requires { 0 < length self.old.lists }
-        ensures { self.new.lists ≡ take (length self.old.lists - 1) self.old.lists }
+        ensures lists { self.new.lists ≡ take (length self.old.lists - 1) self.old.lists }
+        ensures list_room { self.new.list_room ≡ self.old.list_room }
+        ensures item_room { self.new.item_room ≡ self.old.item_room }
     {
         let last = self.ends.len() - 1;
         let end = begin(&self.ends, last);

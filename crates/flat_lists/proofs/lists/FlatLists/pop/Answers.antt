@@ -13,8 +13,8 @@ invariant_of-self g c =
     (c.begin-end.ensures ∙ ap (λ es. begin_of 0 es (c.len-last.result - 1)) c.deref.ensures.value)
     c.truncate.ensures.items c.truncate-2.ensures.items
 
-pub returns : goal.returns
-returns g c =
+pub returns-clause-lists : goal.returns-clause-lists
+returns-clause-lists g c =
     let counted : vec_len c.self.inside.ends ≡ length c.self.inside.ends.items = c.self.inside.ends.ok.0 in
     let length_is = c.len-last.ensures in
     let seen = ap (λ (f : Flat g.row.T.Denot). length f.lists) c.self.view_is in

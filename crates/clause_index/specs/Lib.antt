@@ -1,0 +1,4 @@
+pub mod Order
+pub mod Runs
+pub mod Slots
+pub mod Index

@@ -1,5 +1,5 @@
 -- Lists of clauses.
-use Rattle.std.proofs.Common.{◌≡◌, ℕ, zero, suc, ◌<◌, inl, inr, List, [], ◌∷◌, ◌++◌, length, slice_get, Some, ap, subst, arith, length-append}
+use Rattle.std.proofs.Common.{◌≡◌, ℕ, zero, suc, ◌<◌, inl, inr, List, [], ◌∷◌, ◌++◌, length, slice_get, Bool, Option, Some, None, IfSome, IfNone, is_some, IsTrue, ◌↔◌, ◌∙◌, refl, ap, subst, arith, length-append}
 use Rattle.clause_defs.specs.declared.verdict.TheConstants.{MAX_CLAUSES}
 use Rattle.clause_defs.specs.Literals.{Literal, IsLiteral}
 use Rattle.clause_defs.specs.Clauses.{Lits, Has, SameSet, HasClause, IsOrdered, IsClause}
@@ -40,3 +40,12 @@ pub HasClause-none : (f : List Lits) (c : Lits) → AreClauses f → IsOrdered c
 HasClause-none f c h ordered none had =
     let at = place_of_member f had.0 had.1 in
     none at.0 had.0 at.1 at.2 (same_ordered had.0 c (h.clauses had.0 had.1).ordered ordered had.2)
+
+-- a look-up that answers exactly says whether the clause is had
+pub had_if_found : (f : List Lits) (c : Lits) (o : Option ℕ) (b : Bool) → AreClauses f → IsOrdered c → IfSome o (λ k. slice_get f k ≡ Some c)
+    → IfNone o ((k : ℕ) → slice_get f k ≡ Some c → ⊥) → b ≡ is_some o → IsTrue b ↔ HasClause f c
+had_if_found f c (Some k) b h ordered found absent e = (λ t. HasClause-here f k c c found refl, λ had. e)
+had_if_found f c None b h ordered found absent e = (
+  λ t. absurd (cc),
+  λ had. absurd (HasClause-none f c h ordered (λ k d lt here same. absent k (here ∙ ap Some same)) had),
+)

@@ -1,4 +1,3 @@
 pub mod ClauseLemmas
 pub mod CompactedLemmas
-pub mod IndexLemmas
 pub mod TraceLemmas

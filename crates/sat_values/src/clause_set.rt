@@ -2,30 +2,30 @@ ghost use Rattle.std.specs.Prelude.{◌≡◌, ◌↔◌, ◌-◌, ◌≤◌, le
 ghost use Rattle.clause_defs.specs.Clauses.{Lits, Has, HasClause, IsOrdered, IsClause, WithinVariables};
 ghost use Rattle.sat_values.specs.ClauseLists.{AreClausesOver};
 
-use crate::clause_index::{ClauseIndex, stands_before};
 use crate::clauses::Clauses;
 use clause_defs::MAX_VARIABLE;
+use clause_index::ClauseIndex;
 use pch_base::{Lit, NoMemory};
 use std::alloc::Global;
 use std::marker::Model;
 
-/// A list of clauses, numbered from 1, over a number of variables.
+/// A list of clauses over a number of variables, which can be looked up by their literals. They are
+/// numbered from 1, as texts number them; [`Clauses`] counts from 0.
 #[derive(Debug, Drop)]
 pub struct ClauseSet {
     variables: u32,
-    clauses: Clauses,
-    index: ClauseIndex,
+    clauses: ClauseIndex,
 }
 
 impl Model for ClauseSet {
     ghost use Rattle.clause_defs.specs.Formulas.{Formula};
-    ghost use Rattle.sat_values.specs.ClauseSets.{IsClauseSet};
+    ghost use Rattle.sat_values.specs.ClauseLists.{AreClausesOver};
 
     ghost Value = { Formula };
 
-    ghost view = { λ s. record { variables = s.variables; clauses = s.clauses } };
+    ghost view = { λ s. record { variables = s.variables; clauses = s.clauses.clauses } };
 
-    ghost invariant = { λ s. IsClauseSet s.variables s.clauses s.index.latest.items s.index.earlier.items };
+    ghost invariant = { λ s. AreClausesOver s.variables s.clauses.clauses };
 }
 
 impl ClauseSet {
@@ -35,12 +35,9 @@ impl ClauseSet {
         requires within { (c : Lits) → Has list c → WithinVariables variables c }
         ensures { IfOk result (λ s. s ≡ record { variables = variables; clauses = list }) }
     {
-        let index = ClauseIndex::of(alloc, &list)?;
-        let _len = list.len();
         Ok(ClauseSet {
             variables,
-            clauses: list,
-            index,
+            clauses: ClauseIndex::of(alloc, list.into_lists())?,
         })
     }
 
@@ -76,6 +73,6 @@ impl ClauseSet {
         requires { IsOrdered lits.now }
         ensures { IsTrue result ↔ HasClause self.now.clauses lits.now }
     {
-        stands_before(&self.clauses, &self.index.latest, &self.index.earlier, lits)
+        self.clauses.find(lits).is_some()
     }
 }

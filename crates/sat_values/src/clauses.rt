@@ -8,7 +8,8 @@ use pch_base::{Clause, Lit, NoMemory, literals_are_within_limits};
 use std::alloc::Global;
 use std::marker::Model;
 
-/// A list of clauses, at most [`MAX_CLAUSES`] of them.
+/// A list of clauses, at most [`MAX_CLAUSES`] of them. They are counted from 0, as in every list; a
+/// [`ClauseSet`](crate::ClauseSet) numbers its clauses from 1, as texts do.
 ///
 /// Contracts see it as the list of its clauses, each with distinct literals in their order.
 #[derive(Debug, Drop)]
@@ -77,5 +78,12 @@ impl Clauses {
         }
         self.lists.push(lits)?;
         Ok(())
+    }
+    /// The lists of literals.
+    pub(crate) fn into_lists(self) -> FlatLists<Lit>
+        ensures lists { result.lists ≡ self }
+        ensures clauses { AreClauses self }
+    {
+        self.lists
     }
 }

@@ -6,7 +6,6 @@
 //! them has distinct literals in their order.
 #![tactic(auto)]
 
-mod clause_index;
 mod clause_set;
 mod clauses;
 mod cnf;

@@ -1,15 +1,11 @@
-use Rattle.std.proofs.Common.{length, sym, ap, ◌∙◌, subst}
+use Rattle.std.proofs.Common.{subst, IsTrue, ◌↔◌}
 use Rattle.clause_defs.specs.Clauses.{HasClause}
 use Rattle.clause_defs.specs.Formulas.{Formula}
-use Rattle.sat_values.proofs.IndexLemmas.{HasClause-StandsBefore, StandsBefore-HasClause}
+use Rattle.sat_values.proofs.ClauseLemmas.{had_if_found}
 use Rattle.sat_values.proofs.clause_set.ClauseSet.has.Goals as goal
 
 pub returns : goal.returns
-returns c = (
-  λ t. subst (λ (f : Formula). HasClause f.clauses c.args.lits.now) c.self.view_is
-      (StandsBefore-HasClause c.self.inside.clauses _ c.args.lits.now (c.stands_before.ensures.0 t)),
-  λ h. c.stands_before.ensures.1
-      (HasClause-StandsBefore c.self.inside.clauses _ c.args.lits.now c.self.invariant.clauses.clauses c.requires
-      (ap length c.deref-2.ensures.value ∙ c.self.invariant.whole)
-      (subst (λ (f : Formula). HasClause f.clauses c.args.lits.now) (sym c.self.view_is) h)),
-)
+returns c =
+    subst (λ (f : Formula). IsTrue c.is_some.result ↔ HasClause f.clauses c.args.lits.now) c.self.view_is
+    (had_if_found c.self.inside.clauses.clauses c.args.lits.now c.find.result c.is_some.result c.self.invariant.clauses c.requires
+    c.find.ensures.some c.find.ensures.none c.is_some.ensures)

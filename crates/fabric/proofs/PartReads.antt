@@ -30,66 +30,66 @@ run_is own listed words from count place width most same place_is width_is fits 
     }
 
 -- channel 0
-pub first_read : (k : ConfigValue) (words : List ℕ) (width : ℕ) → IsConfig k → words ≡ k.words → width ≡ k.geometry.tracks
-    → take width words ≡ first_words k
-first_read k words width h same width_is =
-    ap (λ ws. take width ws) same ∙ ap (λ n. take n k.words) width_is ∙ first_words-take k h
+pub first_read : (config : ConfigValue) (words : List ℕ) (width : ℕ) → IsConfig config → words ≡ config.words → width ≡ config.geometry.tracks
+    → take width words ≡ first_words config
+first_read config words width h same width_is =
+    ap (λ ws. take width ws) same ∙ ap (λ n. take n config.words) width_is ∙ first_words-take config h
 
 -- none of its words is above the number of input pads
-pub first_within : (k : ConfigValue) (words : List ℕ) (width : ℕ) → IsConfig k → words ≡ k.words → width ≡ k.geometry.tracks
-    → All (λ word. word ≤ k.geometry.input_pads) (take width words)
-first_within k words width h same width_is =
-    let P : List ℕ → Type 0 = All (λ word. word ≤ k.geometry.input_pads) in
-    subst P (sym (first_read k words width h same width_is)) (first_words-le k h)
+pub first_within : (config : ConfigValue) (words : List ℕ) (width : ℕ) → IsConfig config → words ≡ config.words → width ≡ config.geometry.tracks
+    → All (λ word. word ≤ config.geometry.input_pads) (take width words)
+first_within config words width h same width_is =
+    let P : List ℕ → Type 0 = All (λ word. word ≤ config.geometry.input_pads) in
+    subst P (sym (first_read config words width h same width_is)) (first_words-le config h)
 
 -- the pins of a cell
-pub pins_read : (k : ConfigValue) (g : GeometryValue) (words : List ℕ) (column row place width : ℕ) → IsConfig k → g ≡ k.geometry
-    → words ≡ k.words → place ≡ cell_place g column row → width ≡ pin_count g
-    → column < k.geometry.columns → row < k.geometry.rows
-    → IsRun words (pin_words k column row) place width k.geometry.tracks
-pins_read k g words column row place width h of same place_is width_is lt inside =
-    run_is k.words (pin_words k column row) words (cell_place k.geometry column row) (pin_count k.geometry) place width k.geometry.tracks same
+pub pins_read : (config : ConfigValue) (g : GeometryValue) (words : List ℕ) (column row place width : ℕ) → IsConfig config → g ≡ config.geometry
+    → words ≡ config.words → place ≡ cell_place g column row → width ≡ pin_count g
+    → column < config.geometry.columns → row < config.geometry.rows
+    → IsRun words (pin_words config column row) place width config.geometry.tracks
+pins_read config g words column row place width h of same place_is width_is lt inside =
+    run_is config.words (pin_words config column row) words (cell_place config.geometry column row) (pin_count config.geometry) place width config.geometry.tracks same
     (place_is ∙ ap (λ g. cell_place g column row) of) (width_is ∙ ap pin_count of)
-    (pin_words-within k column row h lt inside) (pin_words-range k column row h lt inside) (pin_words-le k column row h lt inside)
+    (pin_words-within config column row h lt inside) (pin_words-range config column row h lt inside) (pin_words-le config column row h lt inside)
 
 -- the channel after a column
-pub tracks_read : (k : ConfigValue) (g : GeometryValue) (words : List ℕ) (column place width : ℕ) → IsConfig k → g ≡ k.geometry
-    → words ≡ k.words → place ≡ channel_place g column → width ≡ g.tracks → column < k.geometry.columns
-    → IsRun words (track_words k column) place width (k.geometry.rows + 1)
-tracks_read k g words column place width h of same place_is width_is lt =
-    run_is k.words (track_words k column) words (channel_place k.geometry column) k.geometry.tracks place width (k.geometry.rows + 1) same
+pub tracks_read : (config : ConfigValue) (g : GeometryValue) (words : List ℕ) (column place width : ℕ) → IsConfig config → g ≡ config.geometry
+    → words ≡ config.words → place ≡ channel_place g column → width ≡ g.tracks → column < config.geometry.columns
+    → IsRun words (track_words config column) place width (config.geometry.rows + 1)
+tracks_read config g words column place width h of same place_is width_is lt =
+    run_is config.words (track_words config column) words (channel_place config.geometry column) config.geometry.tracks place width (config.geometry.rows + 1) same
     (place_is ∙ ap (λ g. channel_place g column) of) (width_is ∙ ap (λ (g : GeometryValue). g.tracks) of)
-    (track_words-within k column h lt) (track_words-range k column h lt) (track_words-le k column h lt)
+    (track_words-within config column h lt) (track_words-range config column h lt) (track_words-le config column h lt)
 
 -- the output pads
-pub pads_read : (k : ConfigValue) (g : GeometryValue) (words : List ℕ) (place width : ℕ) → IsConfig k → g ≡ k.geometry
-    → words ≡ k.words → place ≡ output_place g → width ≡ g.output_pads
-    → IsRun words (output_words k) place width k.geometry.tracks
-pads_read k g words place width h of same place_is width_is =
-    let fits : output_place k.geometry + k.geometry.output_pads ≤ length k.words = omega (arith, output_words-end k h) in
-    run_is k.words (output_words k) words (output_place k.geometry) k.geometry.output_pads place width k.geometry.tracks same
+pub pads_read : (config : ConfigValue) (g : GeometryValue) (words : List ℕ) (place width : ℕ) → IsConfig config → g ≡ config.geometry
+    → words ≡ config.words → place ≡ output_place g → width ≡ g.output_pads
+    → IsRun words (output_words config) place width config.geometry.tracks
+pads_read config g words place width h of same place_is width_is =
+    let fits : output_place config.geometry + config.geometry.output_pads ≤ length config.words = omega (arith, output_words-end config h) in
+    run_is config.words (output_words config) words (output_place config.geometry) config.geometry.output_pads place width config.geometry.tracks same
     (place_is ∙ ap output_place of) (width_is ∙ ap (λ (g : GeometryValue). g.output_pads) of)
-    fits (range_is k.words (output_place k.geometry) k.geometry.output_pads fits) (output_words-le k h)
+    fits (range_is config.words (output_place config.geometry) config.geometry.output_pads fits) (output_words-le config h)
 
 -- the words of a cell's table are there
-pub table_fits : (k : ConfigValue) (g : GeometryValue) (words : List ℕ) (column row place width : ℕ) → IsConfig k → g ≡ k.geometry
-    → words ≡ k.words → place ≡ table_place g column row → width ≡ table_words g
-    → column < k.geometry.columns → row < k.geometry.rows
+pub table_fits : (config : ConfigValue) (g : GeometryValue) (words : List ℕ) (column row place width : ℕ) → IsConfig config → g ≡ config.geometry
+    → words ≡ config.words → place ≡ table_place g column row → width ≡ table_words g
+    → column < config.geometry.columns → row < config.geometry.rows
     → place + width ≤ length words
-table_fits k g words column row place width h of same place_is width_is lt inside =
-    let at : place ≡ table_place k.geometry column row = place_is ∙ ap (λ g. table_place g column row) of in
-    let wide : width ≡ table_words k.geometry = width_is ∙ ap table_words of in
-    omega (arith, table_words-within k column row h lt inside, ap length same)
+table_fits config g words column row place width h of same place_is width_is lt inside =
+    let at : place ≡ table_place config.geometry column row = place_is ∙ ap (λ g. table_place g column row) of in
+    let wide : width ≡ table_words config.geometry = width_is ∙ ap table_words of in
+    omega (arith, table_words-within config column row h lt inside, ap length same)
 
 -- and they are its words
-pub table_read : (k : ConfigValue) (g : GeometryValue) (words : List ℕ) (column row place width : ℕ) → IsConfig k → g ≡ k.geometry
-    → words ≡ k.words → place ≡ table_place g column row → width ≡ table_words g
-    → column < k.geometry.columns → row < k.geometry.rows
-    → slice_range words place (place + width) ≡ table_words_at k column row
-table_read k g words column row place width h of same place_is width_is lt inside =
-    let at : place ≡ table_place k.geometry column row = place_is ∙ ap (λ g. table_place g column row) of in
-    let wide : width ≡ table_words k.geometry = width_is ∙ ap table_words of in
+pub table_read : (config : ConfigValue) (g : GeometryValue) (words : List ℕ) (column row place width : ℕ) → IsConfig config → g ≡ config.geometry
+    → words ≡ config.words → place ≡ table_place g column row → width ≡ table_words g
+    → column < config.geometry.columns → row < config.geometry.rows
+    → slice_range words place (place + width) ≡ table_words_at config column row
+table_read config g words column row place width h of same place_is width_is lt inside =
+    let at : place ≡ table_place config.geometry column row = place_is ∙ ap (λ g. table_place g column row) of in
+    let wide : width ≡ table_words config.geometry = width_is ∙ ap table_words of in
     ap (λ ws. slice_range ws place (place + width)) same
-    ∙ ap (λ p. slice_range k.words p (p + width)) at
-    ∙ ap (λ n. slice_range k.words (table_place k.geometry column row) (table_place k.geometry column row + n)) wide
-    ∙ table_words-range k column row h lt inside
+    ∙ ap (λ p. slice_range config.words p (p + width)) at
+    ∙ ap (λ n. slice_range config.words (table_place config.geometry column row) (table_place config.geometry column row + n)) wide
+    ∙ table_words-range config column row h lt inside

@@ -83,17 +83,17 @@ OrMemory-exact g bytes words (Err error) h = inr h
 
 -- the words of what is given are the words
 pub words_of_given : (g : GeometryValue) (bytes : ℕ) (words spelled : List ℕ) (r : Result ConfigValue ConfigError)
-    → ConfigOf g bytes words r → bytes_of words ≡ spelled → IfOk r (λ k. bytes_of k.words ≡ spelled)
-words_of_given g bytes words spelled (Ok k) h e = ap (λ (v : ConfigValue). bytes_of v.words) h.2 ∙ e
+    → ConfigOf g bytes words r → bytes_of words ≡ spelled → IfOk r (λ config. bytes_of config.words ≡ spelled)
+words_of_given g bytes words spelled (Ok config) h e = ap (λ (v : ConfigValue). bytes_of v.words) h.2 ∙ e
 words_of_given g bytes words spelled (Err x) h e = tt
 
 -- what was printed of a configuration gives it again
-pub ConfigOf-printed : (k : ConfigValue) (bytes : List ℕ) → IsConfig k → bytes ≡ bytes_of k.words
-    → ConfigOf k.geometry (length bytes) (words_in bytes) (Ok k)
-ConfigOf-printed k bytes h is =
-    let words : words_in bytes ≡ k.words = ap words_in is ∙ words_in-bytes_of k.words in
-    let make : List ℕ → ConfigValue = λ ws. record { geometry = k.geometry; words = ws } in (
-      omega (arith, ap length is, length-bytes_of k.words, length-words k h),
+pub ConfigOf-printed : (config : ConfigValue) (bytes : List ℕ) → IsConfig config → bytes ≡ bytes_of config.words
+    → ConfigOf config.geometry (length bytes) (words_in bytes) (Ok config)
+ConfigOf-printed config bytes h is =
+    let words : words_in bytes ≡ config.words = ap words_in is ∙ words_in-bytes_of config.words in
+    let make : List ℕ → ConfigValue = λ ws. record { geometry = config.geometry; words = ws } in (
+      omega (arith, ap length is, length-bytes_of config.words, length-words config h),
       h,
       ap make (sym words),
     )

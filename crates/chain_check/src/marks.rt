@@ -68,6 +68,13 @@ impl Marks {
         })
     }
 
+    /// The greatest variable that a literal may have.
+    pub fn variables(&self) -> u32
+        ensures { result ≡ self.now.variables }
+    {
+        self.variables
+    }
+
     /// Empties the running clause, with numbers for this many steps.
     pub(crate) fn clear(&mut self, steps: u32)
         ensures variables { self.new.variables ≡ self.old.variables }

@@ -7,7 +7,7 @@ ghost use Rattle.clause_defs.specs.Verdicts.{ChainFault, ClauseFault, EndsEmpty}
 ghost use Rattle.clause_defs.specs.declared.verdict.ChainError.{ChainError};
 ghost use Rattle.clause_defs.specs.declared.verdict.Verdict.{Verdict};
 ghost use Rattle.chain_check.specs.ByPlace.{parts_of, EachEndsBy};
-ghost use Rattle.chain_check.specs.Known.{literals_at, antecedents_known, signs_before};
+ghost use Rattle.chain_check.specs.Known.{literals_at, antecedents_known, IsKnownBefore, signs_before};
 ghost use Rattle.chain_check.specs.Rooms.{IsRoomFor, KnowsBefore, StopsAt, SignsAreRight, IsFirstFault};
 
 use crate::chain::{follow, known_literals};
@@ -57,6 +57,13 @@ impl Room {
             clause: Vec::with_capacity(alloc, 2 * variables as usize)?,
             computed: Computed::new(alloc, places, most_literals(variables, signs, limit))?,
         })
+    }
+
+    /// Marks for the variables of the trace, besides those of the room.
+    pub fn more_marks(&self, alloc: Global) -> Result<Marks, NoMemory>
+        ensures { IfOk result (λ m. m.variables ≡ self.now.marks.variables) }
+    {
+        Marks::new(alloc, self.marks.variables())
     }
 
     /// Takes out what an earlier check left.
@@ -115,6 +122,7 @@ impl Room {
         ensures right { SignsAreRight t.now self.old.limit result.place }
         ensures knows { KnowsBefore t.now self.new result.place }
         ensures within { result.place ≤ length t.now }
+        ensures trace { IsTrace t.now }
     {
         self.clear(t);
         for k in 0..t.len() {
@@ -164,7 +172,7 @@ impl Room {
     ) -> Option<Verdict>
         requires order { from ≤ to }
         requires within { to ≤ length t.now }
-        requires knows { KnowsBefore t.now self.now to }
+        requires known { IsKnownBefore t.now self.now.marks.variables self.now.computed.clauses to }
         requires right { SignsAreRight t.now self.now.limit to }
         requires covered { m.old.variables ≡ self.now.marks.variables }
         ensures fault { IsFirstFault f.now.clauses t.now self.now.limit from to result }
@@ -212,7 +220,7 @@ impl Room {
     }
 
     /// Whether the trace has a clause and its last one is empty.
-    pub(crate) fn ends_empty(&self, t: &Trace) -> bool
+    pub fn ends_empty(&self, t: &Trace) -> bool
         requires { KnowsBefore t.now self.now (length t.now) }
         ensures { IsTrue result ↔ EndsEmpty t.now }
     {

@@ -2,18 +2,13 @@
 use Rattle.std.specs.Prelude.{ℕ, zero, suc, ◌+◌, ◌-◌, ◌*◌, ◌/◌, ◌==◌, Bool, true, false, not, ◌&&◌, ◌||◌, if◌then◌else◌, List, [], ◌∷◌, ◌++◌, length, map, take, drop, slice_index_or}
 use Rattle.std.proofs.Common.{leb}
 use Rattle.fabric_defs.specs.Numbered.{list_of, joined}
-use Rattle.cell_defs.specs.declared.source.Source.{Source}
 use Rattle.cell_defs.specs.declared.source.Source.TheVariants.{Zero, Cell}
 use Rattle.cell_defs.specs.Cells.{CellValue}
 use Rattle.map_defs.specs.declared.gate.Gate.{Gate}
+use Rattle.map_defs.specs.declared.term.Term.{Term}
 use Rattle.map_defs.specs.declared.gate.Gate.TheVariants.{Conjunction, Disjunction}
 use Rattle.map_defs.specs.declared.limits.TheConstants.{GROUP}
 use Rattle.map_defs.specs.Tables.{bit_of, table_of}
-
--- a source, or its negation
-pub record Term : Type 0 where
-  pub source : Source
-  pub positive : Bool
 
 -- what stands past the last term, where nothing looks
 abbrev pub no_term : Term

@@ -37,11 +37,14 @@ pub record IsMappedCell (cell : CellValue) : Type 0 where
   pub table : cell.table < 2 ^ TABLE_BITS
   pub repeated : IsRepeated (length cell.pins) cell.table
 
--- all cells are settled after as many rounds as there are cells, and each output is nowhere, an input or a
--- cell
+-- every cell is settled after some number of rounds
+abbrev pub AreSettled : MappedValue → Type 0
+AreSettled l = (rounds : ℕ) × ((k : ℕ) → k < length l.cells → IsSettledCell l rounds k)
+
+-- all cells are mapped cells and settled, and each output is nowhere, an input or a cell
 pub record AreMapped (l : MappedValue) : Type 0 where
   pub each : (k : ℕ) → k < length l.cells → IsMappedCell (mapped_cell l k)
-  pub settled : (k : ℕ) → k < length l.cells → IsSettledCell l (length l.cells) k
+  pub settled : AreSettled l
   pub outputs : All (IsSourceBelow l.inputs (length l.cells)) l.outputs
 
 -- there are so few of everything that their numbers fit

@@ -12,7 +12,8 @@ use Rattle.cell_defs.specs.Cells.{CellValue}
 use Rattle.map_defs.specs.declared.gate.Gate.TheVariants.{Conjunction, Disjunction}
 use Rattle.map_defs.specs.declared.limits.TheConstants.{GROUP}
 use Rattle.map_defs.specs.Tables.{table_of}
-use Rattle.map_defs.specs.Gates.{Term, gate_cells}
+use Rattle.map_defs.specs.declared.term.Term.{Term}
+use Rattle.map_defs.specs.Gates.{gate_cells}
 
 -- the one cell of a node with few fan-ins: its table is the node's
 abbrev pub direct_cell : Node → CellValue

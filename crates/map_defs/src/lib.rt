@@ -12,6 +12,8 @@
 
 mod gate;
 mod limits;
+mod term;
 
 pub use gate::Gate;
 pub use limits::{GROUP, MAX_COUNT, TABLE_BITS};
+pub use term::Term;

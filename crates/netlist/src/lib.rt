@@ -1,11 +1,10 @@
 //! Nets: acyclic networks that are built from BLIF designs, evaluated, paired and compared.
 //!
-//! A `Net` is made by `build` from a design, by `read_specification` from a text or by `aligned` from
-//! another net, and never changed. `net_defs` says what
-//! networks are, what they compute and how they pair, and `net_laws` what follows; here are the order
-//! in which the nodes of a net are evaluated (`specs/Orders`), the search that finds it
-//! (`specs/Sortings`), the look-up of names (`specs/Index`), the partners of names
-//! (`specs/Partners`) and where signals come to as inputs move (`specs/Moves`).
+//! A `Net` is made by `build` from a design, by `read_specification` from a text or by `aligned`
+//! from another net, and never changed. `net_defs` says what networks are, what they compute and how
+//! they pair, and `net_laws` what follows; here are what a net keeps (`specs/Orders`), the search for
+//! an order of its nodes (`specs/Sortings`), the look-up of names (`specs/Index`), the partners of
+//! names (`specs/Partners`) and where signals come to as inputs move (`specs/Moves`).
 #![tactic(auto)]
 
 mod aligned;

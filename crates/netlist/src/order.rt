@@ -23,11 +23,13 @@ pub(crate) enum State {
 /// A search through the fan-ins, which puts each node into the order after those that it needs.
 #[derive(Drop)]
 pub(crate) struct Sorting {
+    /// How far it has come with each node.
     states: Vec<State>,
     /// For each node, how many of its pins are still to be looked at, from the last one on.
     left: Vec<u32>,
     /// The open nodes: each needs the next one.
     stack: Vec<u32>,
+    /// The nodes that are done, each after those that it needs.
     order: Vec<u32>,
 }
 
@@ -75,13 +77,7 @@ impl Sorting {
     fn into_order(self) -> Vec<u32>
         ensures { result.items ≡ self.order.items }
     {
-        let Sorting {
-            states: _states,
-            left: _left,
-            stack: _stack,
-            order,
-        } = self;
-        order
+        self.order
     }
 
     /// Puts the node and all that it needs into the order. Answers false where it isn't settled.

@@ -12,12 +12,11 @@ use Rattle.net_defs.specs.Networks.{Node, Network, no_node, node_at}
 use Rattle.net_defs.specs.Nets.{row_count, rows_size, IsNet}
 use Rattle.fabric_defs.specs.Numbered.{list_of}
 use Rattle.fabric_laws.proofs.NumberedLemmas.{length-list_of, get_or-list_of}
-use Rattle.cell_defs.specs.declared.source.Source.{Source}
-use Rattle.cell_defs.specs.declared.source.Source.TheVariants.{Zero as NoSource, Pad, Cell}
-use Rattle.cell_defs.specs.Cells.{CellValue, CellsValue, AreCells}
+use Rattle.cell_defs.specs.Cells.{CellsValue}
 use Rattle.miter_defs.specs.Numberings.{rows_before, cone_before, cone_size, row_variable, cell_variable, difference_variable, variable_count, source_variable}
 use Rattle.miter_laws.proofs.Ranges.{variable_count-le}
 use Rattle.miter_cnf.specs.Numbered.{NumberingValue, numbering_of, sum_before, flags_before, first_row, first_cell, first_difference, IsVariable, IsNumbering}
+use Rattle.miter_cnf.specs.Circuits.{AreCircuits}
 
 -- ---- sums and counts of the first elements
 
@@ -81,26 +80,6 @@ rows_before-is net l v =
 pub row_count-is : (net : Network) (l : CellsValue) → sum (numbering_of net l).rows ≡ row_count net
 row_count-is net l = sum-map (λ (node : Node). length node.rows) net.nodes
 
--- how many flags are true is how many cells are in the cone
-flags-map : (cells : List CellValue) → count_by (λ b. b) (map (λ (cell : CellValue). cell.in_cone) cells) ≡ count_by (λ (cell : CellValue). cell.in_cone) cells
-flags-map [] = refl
-flags-map (cell ∷ cells) =
-    let flag : Bool → ℕ = λ b. cond b 1 0 in
-    let member : CellValue → ℕ = λ c. cond c.in_cone 1 0 in
-    omega (
-      arith,
-      sum_by-cons flag cell.in_cone (map (λ (c : CellValue). c.in_cone) cells),
-      sum_by-cons member cell cells,
-      flags-map cells,
-    )
-
-cone_before-is : (net : Network) (l : CellsValue) (k : ℕ) → count_by (λ b. b) (take k (numbering_of net l).cone) ≡ cone_before l k
-cone_before-is net l k =
-    ap (λ xs. count_by (λ (b : Bool). b) xs) (take-map (λ (cell : CellValue). cell.in_cone) k l.cells) ∙ flags-map (take k l.cells)
-
-pub cone_size-is : (net : Network) (l : CellsValue) → count_by (λ b. b) (numbering_of net l).cone ≡ cone_size l
-cone_size-is net l = flags-map l.cells
-
 -- the signals
 pub nodes-is : (net : Network) (l : CellsValue) → length (numbering_of net l).rows ≡ length net.nodes
 nodes-is net l = length-map net.nodes (λ (node : Node). length node.rows)
@@ -116,69 +95,49 @@ pub cell_variable-is : (m : NumberingValue) (net : Network) (l : CellsValue) (k 
     → flags_before (first_cell m) m.cone k ≡ cell_variable net l k
 cell_variable-is m net l k e =
     ap (λ (n : NumberingValue). flags_before (first_cell n) n.cone k) e
-    ∙ omega (arith, nodes-is net l, row_count-is net l, cone_before-is net l k)
+    ∙ omega (arith, nodes-is net l, row_count-is net l)
 
 -- the variable of a difference
 pub difference_variable-is : (m : NumberingValue) (net : Network) (l : CellsValue) (o : ℕ) → m ≡ numbering_of net l
     → first_difference m + o ≡ difference_variable net l o
 difference_variable-is m net l o e =
-    ap (λ (n : NumberingValue). first_difference n + o) e ∙ omega (arith, nodes-is net l, row_count-is net l, cone_size-is net l)
+    ap (λ (n : NumberingValue). first_difference n + o) e ∙ omega (arith, nodes-is net l, row_count-is net l)
 
 -- how many variables there are
 pub variable_count-is : (net : Network) (l : CellsValue)
     → first_difference (numbering_of net l) + length net.outputs ≡ variable_count net l + 1
-variable_count-is net l = omega (arith, nodes-is net l, row_count-is net l, cone_size-is net l)
+variable_count-is net l = omega (arith, nodes-is net l, row_count-is net l)
 
 -- and there are no more than a literal may have
-pub numbering-within : (net : Network) (l : CellsValue) → IsNet net → AreCells l
+pub numbering-within : (net : Network) (l : CellsValue) → AreCircuits net l
     → first_difference (numbering_of net l) + length net.outputs ≤ MAX_VARIABLE + 1
-numbering-within net l n cells = omega (arith, variable_count-is net l, variable_count-le net l n cells)
+numbering-within net l h =
+    omega (arith, variable_count-is net l, variable_count-le net l h.is_net h.are_cells.cells.geometry h.are_cells.cone.count)
 
 -- a numbering is that of a network and cells where each part is
 pub numbering-by_parts : (net : Network) (l : CellsValue) (m : NumberingValue) → m.inputs ≡ length net.inputs
-    → m.rows ≡ map (λ (node : Node). length node.rows) net.nodes → m.cone ≡ map (λ (cell : CellValue). cell.in_cone) l.cells
+    → m.rows ≡ map (λ (node : Node). length node.rows) net.nodes → m.cone ≡ l.cone
     → m.outputs ≡ length net.outputs → m ≡ numbering_of net l
 numbering-by_parts net l m p q r s = λ i. record { inputs = p i; rows = q i; cone = r i; outputs = s i }
 
 -- the arrays that start at these numbers are those of the numbering
 pub IsNumbering-from : (net : Network) (l : CellsValue) (m : NumberingValue) (rows cells : List ℕ) (row cell difference : ℕ)
-    → IsNet net → AreCells l → m ≡ numbering_of net l
+    → AreCircuits net l → m ≡ numbering_of net l
     → rows ≡ list_of (length m.rows) (sum_before row m.rows) → row ≡ first_row m
     → cells ≡ list_of (length m.cone) (flags_before cell m.cone) → cell ≡ first_cell m
     → difference ≡ first_difference m → IsNumbering m rows cells difference
-IsNumbering-from net l m rows cells row cell difference n a e r at_row c at_cell d = record {
+IsNumbering-from net l m rows cells row cell difference h e r at_row c at_cell d = record {
   rows = r ∙ ap (λ (first : ℕ). list_of (length m.rows) (sum_before first m.rows)) at_row;
   cells = c ∙ ap (λ (first : ℕ). list_of (length m.cone) (flags_before first m.cone)) at_cell;
   difference = d;
-  some_outputs = omega (arith, ap (λ (v : NumberingValue). v.outputs) e, n.outputs_some);
-  within = omega (arith, ap (λ (v : NumberingValue). first_difference v + v.outputs) e, numbering-within net l n a);
+  some_outputs = omega (arith, ap (λ (v : NumberingValue). v.outputs) e, h.is_net.outputs_some);
+  within = omega (arith, ap (λ (v : NumberingValue). first_difference v + v.outputs) e, numbering-within net l h);
 }
 
--- a source has a variable
-pub source-is_variable : (net : Network) (l : CellsValue) (source : Source) → IsNet net → AreCells l
-    → IsVariable (source_variable net l source)
-source-is_variable net l NoSource n a = (omega arith, omega arith)
-source-is_variable net l (Pad p) n a =
-    let most = variable_count-le net l n a in
-    ⊎_elim
-    (λ here. rw (lt-ltb p (length net.inputs) here) (omega arith, omega arith))
-    (λ past. rw (le-ltb p (length net.inputs) past) (omega arith, omega arith))
-    (cases_lt p (length net.inputs))
-source-is_variable net l (Cell k) n a =
-    let most = variable_count-le net l n a in
-    let some = n.outputs_some in
-    let within : cone_before l k ≤ cone_size l = sum_by-take-le _ l.cells k in
-    (omega arith, omega arith)
-
--- so has the source of a pin
-pub pin-is_variable : (net : Network) (l : CellsValue) (sources : List Source) (pins : List ℕ) (j : ℕ) → IsNet net → AreCells l
-    → pins ≡ map (source_variable net l) sources → j < length pins → IsVariable (get_or pins j 0)
-pin-is_variable net l sources pins j n a e lt =
-    let inside : j < length sources = omega (arith, ap length e, length-map sources (source_variable net l)) in
-    let at : get_or pins j 0 ≡ source_variable net l (get_or sources j NoSource) =
-    ap (λ (xs : List ℕ). get_or xs j 0) e ∙ get_or-map (source_variable net l) sources j NoSource 0 inside in
-    let P : ℕ → Type 0 = λ v. IsVariable v in
-    subst P (sym at) (source-is_variable net l (get_or sources j NoSource) n a)
+-- a signal has a variable
+pub signal-is_variable : (m : NumberingValue) (rows cells : List ℕ) (d s : ℕ) → IsNumbering m rows cells d
+    → s < m.inputs + length m.rows → IsVariable (2 + s)
+signal-is_variable m rows cells d s h lt = (omega arith, omega (arith, h.within))
 
 -- ---- few rows
 

@@ -1,14 +1,23 @@
 -- A network beside cells, with their numbering.
-use Rattle.std.specs.Prelude.{◌≡◌, ◌≤◌, length}
+use Rattle.std.specs.Prelude.{◌≡◌}
 use Rattle.net_defs.specs.Networks.{Network}
+use Rattle.net_defs.specs.Nets.{IsNet}
 use Rattle.cell_defs.specs.Cells.{CellsValue}
+use Rattle.extract.specs.Kept.{AreCellsWithCone}
+use Rattle.miter_defs.specs.Equality.{FitsPads}
 use Rattle.miter_cnf.specs.Numbered.{NumberingValue, numbering_of}
 
 pub record Circuits : Type 0 where
   pub net : Network
   pub cells : CellsValue
 
--- there are enough pads for the outputs, and the numbering is that of these two
+-- a net and the cells of a fabric that has a pad for each of its inputs and outputs
+pub record AreCircuits (net : Network) (cells : CellsValue) : Type 0 where
+  pub is_net : IsNet net
+  pub are_cells : AreCellsWithCone cells
+  pub fits : FitsPads net cells.geometry
+
+-- and the numbering of these two
 pub record AreNumbered (net : Network) (cells : CellsValue) (m : NumberingValue) : Type 0 where
-  pub outputs : length net.outputs ≤ cells.geometry.output_pads
   pub numbering : m ≡ numbering_of net cells
+  pub circuits : AreCircuits net cells

@@ -1,3 +1,4 @@
 pub mod Numbered
 pub mod Circuits
+pub mod Tables
 pub mod Writing

@@ -4,7 +4,7 @@ use Rattle.std.specs.List.{count_by}
 use Rattle.clause_defs.specs.declared.verdict.TheConstants.{MAX_VARIABLE}
 use Rattle.net_defs.specs.Networks.{Node, Network}
 use Rattle.fabric_defs.specs.Numbered.{list_of}
-use Rattle.cell_defs.specs.Cells.{CellValue, CellsValue}
+use Rattle.cell_defs.specs.Cells.{CellsValue}
 
 -- how many inputs there are, how many rows each node has, which cells are in the cone, and how many outputs
 -- there are
@@ -16,10 +16,10 @@ pub record NumberingValue : Type 0 where
 
 -- the numbering of this network and these cells
 abbrev pub numbering_of : Network → CellsValue → NumberingValue
-numbering_of net l = record {
+numbering_of net cells = record {
   inputs = length net.inputs;
   rows = map (λ (node : Node). length node.rows) net.nodes;
-  cone = map (λ (cell : CellValue). cell.in_cone) l.cells;
+  cone = cells.cone;
   outputs = length net.outputs;
 }
 

@@ -1,9 +1,14 @@
+//! A net and cells with their numbering: what the clauses of the miter are made of. The calls here give
+//! the literals of variables; the modules beside it write clauses of them.
+
 ghost use Rattle.std.specs.Prelude.{◌≡◌, ◌<◌, ◌≤◌, length, IfOk};
 ghost use Rattle.net_defs.specs.Networks.{node_at, signals};
 ghost use Rattle.cell_defs.specs.Cells.{IsSourceBelow};
 ghost use Rattle.fabric_defs.specs.Geometries.{cell_count};
+ghost use Rattle.miter_defs.specs.Equality.{FitsPads};
 ghost use Rattle.miter_defs.specs.Numberings.{zero_variable, signal_variable, node_variable, row_variable, cell_variable, difference_variable, source_variable};
 ghost use Rattle.miter_defs.specs.Miters.{literal, positive};
+ghost use Rattle.miter_cnf.specs.Circuits.{AreCircuits};
 
 use crate::numbering::Numbering;
 use cell_defs::Source;
@@ -13,12 +18,15 @@ use pch_base::{Lit, NoMemory};
 use std::alloc::Global;
 use std::marker::Model;
 
-/// A net and cells with their numbering: what the clauses of the miter are made of. Its calls give the
-/// literals of variables.
+/// The variable that is false.
+const ZERO_VARIABLE: u32 = 1;
+
+/// A net beside the cells of a fabric that has a pad for each of its inputs and outputs.
 #[derive(Drop)]
 pub(crate) struct Circuits<'a> {
     pub(crate) net: &'a Net,
     pub(crate) cells: &'a Cells,
+    /// The numbering of these two.
     pub(crate) numbering: Numbering,
 }
 
@@ -46,9 +54,9 @@ impl<'a> Circuits<'a> {
         net: &'a Net,
         cells: &'a Cells,
     ) -> Result<Circuits<'a>, NoMemory>
-        requires inputs { length net.now.inputs ≤ cells.now.geometry.input_pads }
-        requires outputs { length net.now.outputs ≤ cells.now.geometry.output_pads }
-        ensures { IfOk result (λ a. a ≡ record { net = net.now; cells = cells.now }) }
+        requires { FitsPads net.now cells.now.geometry }
+        ensures circuits { IfOk result (λ a. a ≡ record { net = net.now; cells = cells.now }) }
+        ensures known { AreCircuits net.now cells.now }
     {
         let numbering = Numbering::of(alloc, net, cells)?;
         Ok(Circuits {
@@ -62,7 +70,7 @@ impl<'a> Circuits<'a> {
     pub(crate) fn zero(&self) -> Lit
         ensures { result ≡ positive zero_variable }
     {
-        Lit::from_parts(1, true)
+        Lit::from_parts(ZERO_VARIABLE, true)
     }
 
     /// A signal of the net.
@@ -70,9 +78,8 @@ impl<'a> Circuits<'a> {
         requires { s < signals self.now.net }
         ensures { result ≡ positive (signal_variable s) }
     {
-        let net = self.net;
-        net.known();
-        Lit::from_parts(2 + s, true)
+        let numbering = &self.numbering;
+        Lit::from_parts(numbering.signal(s), true)
     }
 
     /// Node `v` of the net.
@@ -108,15 +115,13 @@ impl<'a> Circuits<'a> {
         requires { k < cell_count self.now.cells.geometry }
         ensures { result ≡ positive (cell_variable self.now.net self.now.cells k) }
     {
-        let cells = self.cells;
-        cells.known();
         let numbering = &self.numbering;
         Lit::from_parts(numbering.cell_or_next(k), true)
     }
 
     /// Where a pin or an output pad listens.
     pub(crate) fn source(&self, source: Source) -> Lit
-        requires { IsSourceBelow self.now.cells.geometry (cell_count self.now.cells.geometry) source }
+        requires { IsSourceBelow self.now.cells.geometry.input_pads (cell_count self.now.cells.geometry) source }
         ensures { result ≡ positive (source_variable self.now.net self.now.cells source) }
     {
         match source {

@@ -11,17 +11,17 @@
 //! its table; for each output four clauses; at last that some output differs.
 #![tactic(auto)]
 
-mod cell_numbers;
 mod circuits;
 mod formula;
 mod nodes;
 mod numbering;
 mod outputs;
-mod row_numbers;
+
+mod sums;
 mod tables;
 mod writer;
 
-pub use formula::miter;
+pub use formula::{fits_pads, miter, miter_clauses};
 pub use numbering::Numbering;
 
 #[cfg(test)]

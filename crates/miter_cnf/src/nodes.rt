@@ -88,7 +88,6 @@ impl<'a> Circuits<'a> {
             w.new.clauses) }
     {
         let net = self.net;
-        net.known();
         let rows = net.node_rows(v);
         let row = &rows[r as usize];
         let marks = row.marks();

@@ -28,8 +28,6 @@ impl<'a> Circuits<'a> {
     {
         let net = self.net;
         let cells = self.cells;
-        net.known();
-        cells.known();
         let signal = self.signal(net.output_signal(o));
         let source = self.source(cells.output(o));
         write_difference(self.difference(o), signal, source, w)

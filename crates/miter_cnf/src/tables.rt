@@ -1,87 +1,72 @@
-ghost use Rattle.std.specs.Prelude.{◌≡◌, ◌<◌, [], ◌∷◌, length, map, IfOk, OnOk};
+//! The clauses of the cells of the cone: one for each bit of each table.
+
+ghost use Rattle.std.specs.Prelude.{◌≡◌, ◌<◌, ◌≤◌, ◌^◌, [], ◌∷◌, length, All, IfOk, OnOk};
 ghost use Rattle.fabric_defs.specs.Numbered.{list_of, joined};
 ghost use Rattle.fabric_defs.specs.Geometries.{cell_count, table_bits};
-ghost use Rattle.cell_defs.specs.Cells.{cell_at};
-ghost use Rattle.miter_defs.specs.Numberings.{source_variable};
+ghost use Rattle.fabric_defs.specs.declared.limits.TheConstants.{MAX_PINS};
+ghost use Rattle.cell_defs.specs.Cells.{IsSourceBelow};
 ghost use Rattle.miter_defs.specs.Miters.{table_clause, cell_clauses};
+ghost use Rattle.miter_cnf.specs.Tables.{source_literals, bit_clause};
 ghost use Rattle.miter_cnf.specs.Writing.{Adds};
 
-use crate::cell_numbers::cell_count;
 use crate::circuits::{Circuits, signed};
 use crate::writer::Writer;
-use fabric::Geometry;
+use cell_defs::Source;
 use pch_base::{Lit, NoMemory};
-use smallvec::SmallVec;
 use std::alloc::Global;
 
-/// The variables of a cell's pins, in no memory of their own.
-type PinVariables = SmallVec<u32, 8>;
-
-/// How many bits a table has.
-fn table_bits(g: Geometry) -> u32
-    ensures { result ≡ table_bits g }
+/// Writes that the cell has bit `n` of its table where bit `j` of `n` is the bit of pin `j`, for each
+/// pin.
+fn write_bit(cell: Lit, table: u64, pins: &[Lit], n: u32, w: &mut Writer) -> Result<(), NoMemory>
+    requires pins { length pins.now ≤ MAX_PINS }
+    requires bit { n < 2 ^ length pins.now }
+    ensures { OnOk result (Adds w.old.clauses (bit_clause pins.now cell table n ∷ []) w.new.clauses) }
 {
-    1 << g.pins()
+    w.begin();
+    for (j, pin) in pins.iter().enumerate() {
+        w.add(signed(*pin, n >> j & 1 == 0))?;
+    }
+    w.add(signed(cell, table >> n & 1 == 1))?;
+    w.end()
 }
 
 impl<'a> Circuits<'a> {
-    /// The variables of the sources of the pins of cell `k`.
-    fn pins(&self, alloc: Global, k: u32) -> Result<PinVariables, NoMemory>
-        requires { k < cell_count self.now.cells.geometry }
-        ensures { IfOk result (λ pins. pins.items
-            ≡ map (source_variable self.now.net self.now.cells) (cell_at self.now.cells k).pins) }
+    /// Makes `pins` the literals of the sources of pins.
+    fn put_pins(&self, sources: &[Source], pins: &mut Vec<Lit>) -> Result<(), NoMemory>
+        requires { All (IsSourceBelow self.now.cells.geometry.input_pads (cell_count self.now.cells.geometry)) sources.now }
+        ensures { OnOk result (pins.new.items ≡ source_literals self.now.net self.now.cells sources.now) }
     {
-        let cells = self.cells;
-        cells.known();
-        let mut pins = SmallVec::new(alloc);
-        for j in 0..cells.geometry().pins() {
-            pins.push(self.source(cells.pin(k, j)).variable())?;
+        pins.clear();
+        for source in sources {
+            pins.push(self.source(*source))?;
         }
-        Ok(pins)
+        Ok(())
     }
 
-    /// Writes that cell `k` has bit `n` of its table where bit `j` of `n` is the bit of pin `j`, for each
-    /// pin.
-    fn write_bit(&self, k: u32, pins: &[u32], n: u32, w: &mut Writer) -> Result<(), NoMemory>
-        requires cell { k < cell_count self.now.cells.geometry }
-        requires pins { pins.now ≡ map (source_variable self.now.net self.now.cells) (cell_at self.now.cells k).pins }
-        requires bit { n < table_bits self.now.cells.geometry }
-        ensures { OnOk result (Adds w.old.clauses (table_clause self.now.net self.now.cells k n ∷ []) w.new.clauses) }
-    {
-        let net = self.net;
-        let cells = self.cells;
-        net.known();
-        cells.known();
-        w.begin();
-        for (j, pin) in pins.iter().enumerate() {
-            w.add(Lit::from_parts(*pin, n >> j & 1 == 0))?;
-        }
-        w.add(signed(self.cell(k), cells.table(k) >> n & 1 == 1))?;
-        w.end()
-    }
-
-    /// Writes the bits of the table of cell `k`.
-    fn write_table(&self, alloc: Global, k: u32, w: &mut Writer) -> Result<(), NoMemory>
+    /// Writes the bits of the table of cell `k`. `pins` is room for the literals of its pins.
+    fn write_table(&self, k: u32, pins: &mut Vec<Lit>, w: &mut Writer) -> Result<(), NoMemory>
         requires { k < cell_count self.now.cells.geometry }
         ensures { OnOk result (Adds w.old.clauses
             (list_of (table_bits self.now.cells.geometry) (table_clause self.now.net self.now.cells k)) w.new.clauses) }
     {
         let cells = self.cells;
-        let pins = self.pins(alloc, k)?;
-        for n in 0..table_bits(cells.geometry()) {
-            self.write_bit(k, pins.as_slice(), n, w)?;
+        let cell = cells.cell(k);
+        self.put_pins(cell.pins, pins)?;
+        let literal = self.cell(k);
+        for n in 0..1 << pins.len() {
+            write_bit(literal, cell.table, pins, n, w)?;
         }
         Ok(())
     }
 
     /// Writes cell `k`, if it is in the cone.
-    fn write_cell(&self, alloc: Global, k: u32, w: &mut Writer) -> Result<(), NoMemory>
+    fn write_cell(&self, k: u32, pins: &mut Vec<Lit>, w: &mut Writer) -> Result<(), NoMemory>
         requires { k < cell_count self.now.cells.geometry }
         ensures { OnOk result (Adds w.old.clauses (cell_clauses self.now.net self.now.cells k) w.new.clauses) }
     {
         let cells = self.cells;
         if cells.in_cone(k) {
-            self.write_table(alloc, k, w)
+            self.write_table(k, pins, w)
         } else {
             Ok(())
         }
@@ -89,12 +74,12 @@ impl<'a> Circuits<'a> {
 
     /// Writes the cells of the cone.
     pub(crate) fn write_cells(&self, alloc: Global, w: &mut Writer) -> Result<(), NoMemory>
-        ensures { OnOk result (Adds w.old.clauses (joined (length self.now.cells.cells) (cell_clauses self.now.net self.now.cells)) w.new.clauses) }
+        ensures { OnOk result (Adds w.old.clauses
+            (joined (length self.now.cells.cells) (cell_clauses self.now.net self.now.cells)) w.new.clauses) }
     {
-        let cells = self.cells;
-        cells.known();
-        for k in 0..cell_count(cells) {
-            self.write_cell(alloc, k, w)?;
+        let mut pins = Vec::new(alloc);
+        for k in 0..self.cells.geometry().cells() {
+            self.write_cell(k, &mut pins, w)?;
         }
         Ok(())
     }

@@ -1,7 +1,5 @@
 use Rattle.std.proofs.Common.{ap, length, arith}
-use Rattle.std.proofs.lemmas.List.{length-map}
 use Rattle.fabric_defs.specs.Geometries.{cell_count}
-use Rattle.cell_defs.specs.Cells.{CellValue}
 use Rattle.miter_cnf.specs.Numbered.{NumberingValue}
 use Rattle.miter_cnf.specs.Circuits.{Circuits}
 use Rattle.miter_cnf.proofs.circuits.Circuits.cell.Goals as goal
@@ -9,11 +7,9 @@ use Rattle.miter_cnf.proofs.circuits.Circuits.cell.Goals as goal
 -- the numbering has a number for each cell
 pub cell_or_next-requires : goal.cell_or_next-requires
 cell_or_next-requires c =
-    let cells = c.self.inside.cells.now.cells in
     omega (
       arith,
       ap (λ (m : NumberingValue). length m.cone) c.self.invariant.numbering,
-      length-map cells (λ (cell : CellValue). cell.in_cone),
-      c.known.ensures.count,
+      c.self.invariant.circuits.are_cells.cone.count,
       ap (λ (s : Circuits). cell_count s.cells.geometry) c.self.view_is,
     )

@@ -1,7 +1,7 @@
 use Rattle.std.proofs.Common.{◌≡◌}
 use Rattle.fabric_defs.specs.Numbered.{list_of}
 use Rattle.miter_cnf.specs.Numbered.{flags_before}
-use Rattle.miter_cnf.proofs.cell_numbers.flags_before.Given as goal
+use Rattle.miter_cnf.proofs.sums.flags_before.Given as goal
 
 abbrev pub invariant-loop-flag : goal.invariant-loop-flag
 invariant-loop-flag l = record {

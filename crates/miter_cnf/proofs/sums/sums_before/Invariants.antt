@@ -1,7 +1,7 @@
 use Rattle.std.proofs.Common.{◌≡◌}
 use Rattle.fabric_defs.specs.Numbered.{list_of}
 use Rattle.miter_cnf.specs.Numbered.{sum_before}
-use Rattle.miter_cnf.proofs.row_numbers.sums_before.Given as goal
+use Rattle.miter_cnf.proofs.sums.sums_before.Given as goal
 
 abbrev pub invariant-loop-count : goal.invariant-loop-count
 invariant-loop-count l = record {

@@ -4,6 +4,8 @@
 //!     circuit_bench fabric C R T I O CONFIG TIMES
 //!     circuit_bench miter SPEC C R T I O CONFIG
 //!
+//! The word `six` may stand before `fabric` and `miter`: the cells then have six inputs.
+//!
 //! The inputs of each time are made by a fixed rule, and the program prints how many bits of all
 //! outputs were 1, modulo 2^64. Of a miter it prints how many clauses it has. It ends with status 1
 //! where the words have no meaning, a file can't be had, the network doesn't fit the pads or memory is
@@ -18,7 +20,7 @@ use blif_read::read_blif;
 use extract::extract;
 use fabric::{Config, Geometry, Wires};
 use fabric_bytes::read_config;
-use miter_cnf::miter;
+use miter_cnf::{fits_pads, miter};
 use netlist::{Net, Scratch, build};
 use pch_base::{print_number, read_number};
 use pch_io::{FileStore, OutSink, Sink, Store};
@@ -44,9 +46,10 @@ fn number(word: &str) -> Option<u32> {
     read_number(word.as_bytes(), u64::from(u32::MAX)).map(|n| n as u32)
 }
 
-/// The geometry of five words.
-fn geometry(c: &str, r: &str, t: &str, i: &str, o: &str) -> Option<Geometry> {
-    Geometry::new(number(c)?, number(r)?, number(t)?, number(i)?, number(o)?)
+/// The geometry of five words, with cells of four or of six inputs.
+fn geometry(is_six: bool, [c, r, t, i, o]: [&str; 5]) -> Option<Geometry> {
+    let four = Geometry::new(number(c)?, number(r)?, number(t)?, number(i)?, number(o)?)?;
+    Some(if is_six { four.six() } else { four })
 }
 
 /// The network of a file.
@@ -98,12 +101,34 @@ fn miter_clauses<S: Store>(
     let net = load_net(alloc, store, spec)?;
     let config = load_config(alloc, store, g, config)?;
     let cells = extract(alloc, &config).ok()?;
-    let pads = cells.geometry();
-    if net.inputs() > pads.i() || net.outputs() > pads.o() {
+    if !fits_pads(&net, cells.geometry()) {
         return None;
     }
     let clauses = miter(alloc, &net, &cells).ok()?;
     Some(u64::from(clauses.len()))
+}
+
+/// The number that the words behind `six` ask for.
+fn answer_of_kind<S: Store>(
+    alloc: Global,
+    store: &mut S,
+    is_six: bool,
+    words: &[String],
+) -> Option<u64> {
+    match words {
+        [word, c, r, t, i, o, config, times] if word.as_str() == "fabric" => {
+            let sides = [c.as_str(), r.as_str(), t.as_str(), i.as_str(), o.as_str()];
+            let g = geometry(is_six, sides)?;
+            let times = number(times.as_str())?;
+            fabric_ones(alloc, store, g, config.as_str(), u64::from(times))
+        }
+        [word, spec, c, r, t, i, o, config] if word.as_str() == "miter" => {
+            let sides = [c.as_str(), r.as_str(), t.as_str(), i.as_str(), o.as_str()];
+            let g = geometry(is_six, sides)?;
+            miter_clauses(alloc, store, spec.as_str(), g, config.as_str())
+        }
+        _ => None,
+    }
 }
 
 /// The number that the words ask for.
@@ -113,16 +138,8 @@ fn answer<S: Store>(alloc: Global, store: &mut S, words: &[String]) -> Option<u6
             let times = number(times.as_str())?;
             net_ones(alloc, store, spec.as_str(), u64::from(times))
         }
-        [word, c, r, t, i, o, config, times] if word.as_str() == "fabric" => {
-            let g = geometry(c.as_str(), r.as_str(), t.as_str(), i.as_str(), o.as_str())?;
-            let times = number(times.as_str())?;
-            fabric_ones(alloc, store, g, config.as_str(), u64::from(times))
-        }
-        [word, spec, c, r, t, i, o, config] if word.as_str() == "miter" => {
-            let g = geometry(c.as_str(), r.as_str(), t.as_str(), i.as_str(), o.as_str())?;
-            miter_clauses(alloc, store, spec.as_str(), g, config.as_str())
-        }
-        _ => None,
+        [word, rest @ ..] if word.as_str() == "six" => answer_of_kind(alloc, store, true, rest),
+        _ => answer_of_kind(alloc, store, false, words),
     }
 }
 

@@ -9,7 +9,6 @@ use netlist::{Net, Scratch};
 pub(crate) fn ones_of_net(net: &Net, times: u64, s: &mut Scratch) -> u64
     requires { signals net.now ≤ length s.old }
 {
-    net.known();
     let width = net.inputs();
     let mut inputs = Inputs::new();
     let mut ones = 0u64;
@@ -21,16 +20,14 @@ pub(crate) fn ones_of_net(net: &Net, times: u64, s: &mut Scratch) -> u64
 }
 
 /// The ones of all output pads of the configuration, for so many inputs.
-pub(crate) fn ones_of_config(k: &Config, times: u64, w: &mut Wires) -> u64
-    requires { w.old.geometry ≡ k.now.geometry }
+pub(crate) fn ones_of_config(config: &Config, times: u64, w: &mut Wires) -> u64
+    requires { w.old.geometry ≡ config.now.geometry }
 {
-    let g = k.geometry();
-    g.known();
-    let width = g.i();
+    let width = config.geometry().i();
     let mut inputs = Inputs::new();
     let mut ones = 0u64;
     for _ in 0..times {
-        let y = eval(k, inputs.next(width), w);
+        let y = eval(config, inputs.next(width), w);
         ones = ones.wrapping_add(u64::from(y.word().count_ones()));
     }
     ones

@@ -1,5 +1,6 @@
 pub mod WritingLemmas
 pub mod RowLemmas
 pub mod NumberLemmas
+pub mod TableLemmas
 pub mod OutputLemmas
 pub mod FormulaLemmas

@@ -1,9 +1,11 @@
 //! The miter of a net and the cells of a configuration: clauses that are satisfiable where an output
 //! of the two differs for some input.
 //!
-//! `miter` gives the clauses, and `Numbering` says which variable stands for what. The definitions
-//! stand in `miter_defs` and the laws in `miter_laws`; `specs/Numbered` says what a numbering rests
-//! on, and `specs/Writing` how clauses are added.
+//! `miter_clauses` gives the clauses as a list, and `miter` as a set that can be asked whether it has a
+//! clause; both want a net that `fits_pads`. `Numbering` says which variable stands for what. The
+//! definitions stand in `miter_defs` and the laws in `miter_laws`; `specs/Numbered` says what a
+//! numbering rests on, `specs/Circuits` what is known of a net beside cells, `specs/Tables` how the
+//! clause of a bit follows from the literals of a cell, and `specs/Writing` how clauses are added.
 //!
 //! Variables, from 1: one that is false; the inputs and the nodes of the net; the rows by node; the
 //! cells of the cone by number; the differences of the outputs. Clauses, in the same order: the false
@@ -16,7 +18,6 @@ mod formula;
 mod nodes;
 mod numbering;
 mod outputs;
-
 mod sums;
 mod tables;
 mod writer;

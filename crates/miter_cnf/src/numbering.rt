@@ -60,9 +60,9 @@ impl Numbering {
         ensures numbering { IfOk result (λ m. m ≡ numbering_of net.now cells.now) }
         ensures circuits { AreCircuits net.now cells.now }
     {
-        let rows = row_counts(alloc, net)?;
-        let cone = Vec::from_slice(alloc, cells.cone())?;
         let inputs = net.inputs();
+        let cone = Vec::from_slice(alloc, cells.cone())?;
+        let rows = row_counts(alloc, net)?;
         let first_row = FIRST_SIGNAL + (inputs + net.nodes());
         let first_cell = first_row + net.rows();
         Ok(Numbering {

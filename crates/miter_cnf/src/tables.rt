@@ -12,8 +12,16 @@ ghost use Rattle.miter_cnf.specs.Writing.{Adds};
 use crate::circuits::{Circuits, signed};
 use crate::writer::Writer;
 use cell_defs::Source;
+use fabric::Geometry;
 use pch_base::{Lit, NoMemory};
 use std::alloc::Global;
+
+/// How many bits a table has.
+fn table_bits(g: Geometry) -> u32
+    ensures { result ≡ table_bits g }
+{
+    1 << g.pins()
+}
 
 /// Writes that the cell has bit `n` of its table where bit `j` of `n` is the bit of pin `j`, for each
 /// pin.
@@ -53,7 +61,7 @@ impl<'a> Circuits<'a> {
         let cell = cells.cell(k);
         self.put_pins(cell.pins, pins)?;
         let literal = self.cell(k);
-        for n in 0..1 << pins.len() {
+        for n in 0..table_bits(cells.geometry()) {
             write_bit(literal, cell.table, pins, n, w)?;
         }
         Ok(())

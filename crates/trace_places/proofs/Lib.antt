@@ -1,3 +1,3 @@
-pub mod BucketLemmas
+pub mod MoveLemmas
 pub mod PlaceLemmas
 pub mod PushLemmas

@@ -1,24 +1,38 @@
 ghost use Rattle.std.specs.Prelude.{◌≡◌, ◌==◌, ℕ, vec_len, slice_index, if◌then◌else◌, ◌+◌, ◌<◌, ◌^◌, ◌∷◌, ◌++◌, [], length, IfOk, OnOk, OnErr, Ok, Err, None, MatchOption};
+ghost use Rattle.std.specs.Ordering.{nat_cmp};
+ghost use Rattle.std.specs.BTreeMap.{get};
 ghost use Rattle.sat_text_defs.specs.TraceReading.{places_from};
 ghost use Rattle.clause_defs.specs.Traces.{place_of};
+ghost use Rattle.trace_places.specs.Groups.{AreSlots};
+ghost use Rattle.trace_places.specs.Places.{AreRight, MapsRight, HasAll, AreKept, IsMoved};
 
-use crate::buckets::{Buckets, find, is_full, link};
+use crate::groups::Groups;
 use pch_base::NoMemory;
 use std::alloc::Global;
 use std::collections::BTreeMap;
 use std::marker::Model;
 
+/// So many groups there are at first.
+const FIRST_GROUPS: usize = 128;
+
 /// The indices of a trace's clauses by place, all distinct. Contracts see the list.
-///
-/// The table has one more than the place of an index, and 0 where it has none.
 #[derive(Drop)]
 pub struct Places {
+    /// The indices by place.
     indices: Vec<u32>,
+    /// One more than the place of a small index, and 0 where it has none.
     table: Vec<u32>,
+    /// The table gets no longer than this.
     table_limit: usize,
+    /// How many indices stand in the table.
     in_table: usize,
-    buckets: Buckets,
+    /// Indices that don't stand in the table.
+    groups: Groups,
+    /// How many indices stand in the groups.
+    in_groups: usize,
+    /// Indices whose group was full.
     others: BTreeMap<u32, u32>,
+    alloc: Global,
 }
 
 impl Model for Places {
@@ -31,7 +45,7 @@ impl Model for Places {
 
     ghost view = { λ p. p.indices.items };
 
-    ghost invariant = { λ p. ArePlaces p.indices.items p.table.items p.buckets.latest.items p.buckets.earlier.items (get nat_cmp p.others) };
+    ghost invariant = { λ p. ArePlaces p.indices.items p.table.items p.groups.count p.groups.indices.items p.groups.numbers.items (get nat_cmp p.others) };
 }
 
 impl Places {
@@ -44,8 +58,10 @@ impl Places {
             table: Vec::new(alloc),
             table_limit,
             in_table: 0,
-            buckets: Buckets::new(alloc),
+            groups: Groups::none(alloc),
+            in_groups: 0,
             others: BTreeMap::new(alloc),
+            alloc,
         }
     }
 
@@ -58,12 +74,7 @@ impl Places {
         if at < self.table.len() && self.table[at] != 0 {
             return Some(self.table[at] - 1);
         }
-        if let Some(place) = find(
-            &self.indices,
-            &self.buckets.latest,
-            &self.buckets.earlier,
-            index,
-        ) {
+        if let Some(place) = self.groups.find(index) {
             return Some(place);
         }
         self.others.get(&index).copied()
@@ -94,20 +105,20 @@ impl Places {
             self.in_table = self.in_table.saturating_add(1);
             return Ok(());
         }
-        let buckets = &mut self.buckets;
-        if is_full(&self.indices, &buckets.latest, &buckets.earlier, index) {
-            self.others.insert(index, place)?;
+        make_room(
+            self.alloc,
+            &self.indices,
+            self.in_groups,
+            &mut self.groups,
+            &mut self.others,
+        )?;
+        if self.groups.add(index, place) {
             self.indices.push_reserved(index);
+            self.in_groups = self.in_groups.saturating_add(1);
             return Ok(());
         }
-        buckets.make_room(&self.indices)?;
+        self.others.insert(index, place)?;
         self.indices.push_reserved(index);
-        link(
-            &self.indices,
-            &mut buckets.latest,
-            &mut buckets.earlier,
-            place as usize,
-        );
         Ok(())
     }
 
@@ -123,6 +134,74 @@ impl Places {
         }
         Ok(None)
     }
+}
+
+/// Makes twice as many groups where half of all slots are taken. What finds no slot in its new group
+/// goes into the map.
+fn make_room(
+    alloc: Global,
+    indices: &[u32],
+    in_groups: usize,
+    groups: &mut Groups,
+    others: &mut BTreeMap<u32, u32>,
+) -> Result<(), NoMemory>
+    requires slots { AreSlots groups.old.count groups.old.indices.items groups.old.numbers.items }
+    requires right { AreRight indices.now groups.old.indices.items groups.old.numbers.items }
+    requires mapped { MapsRight indices.now (get nat_cmp others.old) }
+    ensures slots { AreSlots groups.new.count groups.new.indices.items groups.new.numbers.items }
+    ensures right { AreRight indices.now groups.new.indices.items groups.new.numbers.items }
+    ensures mapped { MapsRight indices.now (get nat_cmp others.new) }
+    ensures all { HasAll (get nat_cmp others.old) (get nat_cmp others.new) }
+    ensures kept { AreKept groups.old.count groups.old.indices.items groups.old.numbers.items groups.new.count groups.new.indices.items groups.new.numbers.items (get nat_cmp others.new) }
+    ensures some { OnOk result (0 < groups.new.count) }
+{
+    if in_groups / 4 < groups.count {
+        return Ok(());
+    }
+    let count = groups.count.saturating_mul(2).max(FIRST_GROUPS);
+    if count >= 1_152_921_504_606_846_976 {
+        return Err(NoMemory);
+    }
+    let mut more = Groups::empty(alloc, count)?;
+    for slot in 0..groups.numbers.len() {
+        move_slot(indices, groups, slot, &mut more, others)?;
+    }
+    *groups = more;
+    Ok(())
+}
+
+/// Puts what stands in a slot into other groups, or into the map.
+fn move_slot(
+    indices: &[u32],
+    groups: &Groups,
+    slot: usize,
+    more: &mut Groups,
+    others: &mut BTreeMap<u32, u32>,
+) -> Result<(), NoMemory>
+    requires from { AreSlots groups.now.count groups.now.indices.items groups.now.numbers.items }
+    requires within { slot < length groups.now.numbers.items }
+    requires from_right { AreRight indices.now groups.now.indices.items groups.now.numbers.items }
+    requires slots { AreSlots more.old.count more.old.indices.items more.old.numbers.items }
+    requires some { 0 < more.old.count }
+    requires right { AreRight indices.now more.old.indices.items more.old.numbers.items }
+    requires mapped { MapsRight indices.now (get nat_cmp others.old) }
+    ensures slots { AreSlots more.new.count more.new.indices.items more.new.numbers.items }
+    ensures count { more.new.count ≡ more.old.count }
+    ensures right { AreRight indices.now more.new.indices.items more.new.numbers.items }
+    ensures mapped { MapsRight indices.now (get nat_cmp others.new) }
+    ensures all { HasAll (get nat_cmp others.old) (get nat_cmp others.new) }
+    ensures kept { AreKept more.old.count more.old.indices.items more.old.numbers.items more.new.count more.new.indices.items more.new.numbers.items (get nat_cmp others.old) }
+    ensures moved { OnOk result (IsMoved groups.now.indices.items groups.now.numbers.items more.new.count more.new.indices.items more.new.numbers.items (get nat_cmp others.new) slot) }
+{
+    let number = groups.numbers[slot];
+    if number == 0 {
+        return Ok(());
+    }
+    if more.add(groups.indices[slot], number - 1) {
+        return Ok(());
+    }
+    others.insert(groups.indices[slot], number - 1)?;
+    Ok(())
 }
 
 /// Makes the table longer, but not longer than `limit`, so that it has this place.

@@ -1,0 +1,26 @@
+use Rattle.std.proofs.Common.{◌≡◌, nat_cmp, inl, inr, subst, arith}
+use Rattle.std.proofs.lemmas.Bool.{cases_lt}
+use Rattle.std.specs.BTreeMap.{get}
+use Rattle.trace_places.specs.Places.{IsMoved}
+use Rattle.trace_places.proofs.MoveLemmas.{moved_still}
+use Rattle.trace_places.proofs.places.make_room.Goals as goal
+
+pub loop-slot-preserved : goal.loop-slot-preserved
+loop-slot-preserved c = record {
+  slots = c.move_slot.ensures.slots;
+  some = let some = c.loop-slot.invariant.some in let same = c.move_slot.ensures.count in omega arith;
+  right = c.move_slot.ensures.right;
+  mapped = c.move_slot.ensures.mapped;
+  all = λ x p e. c.move_slot.ensures.all x p (c.loop-slot.invariant.all x p e);
+  moved = λ s lt. elim (cases_lt s c.loop-slot.slot) [
+    | inl before ↦
+        moved_still c.args.groups.now.indices.items c.args.groups.now.numbers.items
+        c.loop-slot.more.count c.loop-slot.more.indices.items c.loop-slot.more.numbers.items (get nat_cmp c.loop-slot.others)
+        c.move_slot.new.more.count c.move_slot.new.more.indices.items c.move_slot.new.more.numbers.items (get nat_cmp c.move_slot.new.others) s
+        c.move_slot.ensures.kept c.move_slot.ensures.all (c.loop-slot.invariant.moved s before)
+    | inr at ↦
+        let here : c.loop-slot.slot ≡ s = omega arith in
+        subst (IsMoved c.args.groups.now.indices.items c.args.groups.now.numbers.items c.move_slot.new.more.count c.move_slot.new.more.indices.items
+        c.move_slot.new.more.numbers.items (get nat_cmp c.move_slot.new.others)) here (c.in_ok-move_slot.ensures {u = tt}).moved
+  ];
+}

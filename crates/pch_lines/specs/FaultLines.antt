@@ -8,6 +8,8 @@ use Rattle.blif_defs.specs.declared.error.BlifError.{BlifError}
 use Rattle.blif_defs.specs.declared.error.BlifError.TheVariants as blif
 use Rattle.net_defs.specs.declared.faults.NetError.{NetError}
 use Rattle.net_defs.specs.declared.faults.NetError.TheVariants as network
+use Rattle.net_defs.specs.declared.specification.SpecError.{SpecError}
+use Rattle.net_defs.specs.declared.specification.SpecError.TheVariants as spec
 use Rattle.fabric_defs.specs.declared.faults.ConfigError.{ConfigError}
 use Rattle.fabric_defs.specs.declared.faults.ConfigError.TheVariants as config
 use Rattle.bundle_defs.specs.declared.faults.BundleError.{BundleError}
@@ -62,6 +64,12 @@ network_line front (network.UndrivenPin node pin) = numbers_line front (codes "u
 network_line front (network.UndrivenOutput place) = number_line front (codes "undriven-output") place
 network_line front (network.Cycle node) = number_line front (codes "cycle") node
 network_line front network.NoMemory = []
+
+-- of a text that specifies no network
+abbrev pub spec_line : List ℕ → SpecError → List ℕ
+spec_line front (spec.Text error) = text_line front error
+spec_line front (spec.Network error) = network_line front error
+spec_line front spec.NoMemory = []
 
 -- of a bundle
 abbrev pub bundle_line : List ℕ → BundleError → List ℕ

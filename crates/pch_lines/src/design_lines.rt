@@ -2,17 +2,28 @@
 //! stands in front, and none is printed for want of memory.
 
 ghost use Rattle.std.specs.Prelude.{◌≡◌, ◌≢◌, IfOk};
-ghost use Rattle.pch_lines.specs.FaultLines.{text_line, network_line};
+ghost use Rattle.pch_lines.specs.FaultLines.{text_line, network_line, spec_line};
 
 use crate::line::Line;
 use blif_defs::BlifError;
-use net_defs::NetError;
+use net_defs::{NetError, SpecError};
 use pch_base::NoMemory;
 
+/// The line that says why a text specifies no network.
+pub fn spec_line(front: Line, error: SpecError) -> Result<Vec<u8>, NoMemory>
+    ensures line { IfOk result (λ text. text.items ≡ spec_line front error) }
+    ensures fault { IfOk result (λ _. error ≢ SpecError.NoMemory) }
+{
+    match error {
+        SpecError::Text(error) => text_line(front, error),
+        SpecError::Network(error) => network_line(front, error),
+        SpecError::NoMemory => Err(NoMemory),
+    }
+}
+
 /// The line of the fault of a design's text.
-pub fn text_line(front: Line, error: BlifError) -> Result<Vec<u8>, NoMemory>
-    ensures line { IfOk result (λ text. text.items ≡ text_line front error) }
-    ensures fault { IfOk result (λ _. error ≢ BlifError.NoMemory) }
+fn text_line(front: Line, error: BlifError) -> Result<Vec<u8>, NoMemory>
+    ensures { IfOk result (λ text. text.items ≡ text_line front error) }
 {
     match error {
         BlifError::TooLong => front.word("too-long")?.end(),
@@ -28,9 +39,8 @@ pub fn text_line(front: Line, error: BlifError) -> Result<Vec<u8>, NoMemory>
 }
 
 /// The line of the fault of a design's network.
-pub fn network_line(front: Line, error: NetError) -> Result<Vec<u8>, NoMemory>
-    ensures line { IfOk result (λ text. text.items ≡ network_line front error) }
-    ensures fault { IfOk result (λ _. error ≢ NetError.NoMemory) }
+fn network_line(front: Line, error: NetError) -> Result<Vec<u8>, NoMemory>
+    ensures { IfOk result (λ text. text.items ≡ network_line front error) }
 {
     match error {
         NetError::UndrivenPin { node, pin } => {

@@ -17,7 +17,7 @@ mod words;
 
 pub use bundle_lines::{bundle_line, config_line, miter_error_line};
 pub use command::{Command, NamedFile};
-pub use design_lines::{network_line, text_line};
+pub use design_lines::spec_line;
 pub use formula_lines::{cnf_line, trace_line};
 pub use limits::{MAX_BUNDLE_BYTES, MAX_WORKERS};
 pub use line::Line;

@@ -1,38 +1,94 @@
-ghost use Rattle.std.specs.Prelude.{◌≡◌, IfOk, IsErr, OnErr, codes};
+ghost use Rattle.std.specs.Prelude.{◌≡◌, ◌≢◌, None, IfOk};
+ghost use Rattle.std.specs.Option.{option_map};
+ghost use Rattle.pch_shell.specs.Outcomes.{done, done_with, refused, bad_input, no_words, not_stored};
 ghost use Rattle.pch_io.specs.declared.store.LoadFail.{LoadFail};
-ghost use Rattle.pch_shell.specs.Lines.{ended};
-ghost use Rattle.pch_shell.specs.Endings.{store_line, Put};
 
-use crate::line::Line;
 use crate::status::Status;
 use pch_base::NoMemory;
-use pch_io::{LoadFail, PutFail, Sink};
+use pch_io::LoadFail;
+use pch_lines::Line;
 use std::alloc::Global;
+use std::marker::Model;
 
-/// How a command ends: its status, and the text that is due with it.
+/// What a command comes to. Contracts see the record of it.
 #[derive(Drop)]
 pub struct Ending {
     /// The status that is due.
     pub status: Status,
     /// The text that is due with it: nothing, or whole lines.
     pub text: Vec<u8>,
+    /// The bytes that are to be saved before the text is written.
+    pub saved: Option<Vec<u8>>,
+}
+
+impl Model for Ending {
+    ghost use Rattle.std.specs.Option.{option_map};
+    ghost use Rattle.pch_shell.specs.Outcomes.{Outcome};
+
+    ghost Value = { Outcome };
+
+    ghost view = { λ e. record {
+      status = e.status;
+      text = e.text.items;
+      saved = option_map (λ bytes. bytes.items) e.saved;
+    } };
 }
 
 impl Ending {
-    /// The words have none of the forms.
-    pub fn words(alloc: Global) -> Result<Ending, NoMemory>
-        ensures { IfOk result (λ e. (e.status ≡ Status.Words) × (e.text.items ≡ ended (codes "words"))) }
+    /// A status with its text.
+    fn with(status: Status, text: Vec<u8>) -> Ending
+        ensures { result ≡ record { status = status; text = text.items; saved = None } }
     {
-        Ok(Ending {
-            status: Status::Words,
-            text: Line::new(alloc, "words")?.end()?,
-        })
+        Ending {
+            status,
+            text,
+            saved: None,
+        }
     }
 
-    /// A file wasn't loaded.
-    pub fn store(alloc: Global, name: &str, fail: LoadFail) -> Result<Ending, NoMemory>
-        ensures ending { IfOk result (λ e. (e.status ≡ Status.Store) × (e.text.items ≡ store_line name.now fail)) }
-        ensures memory { fail ≡ LoadFail.NoMemory → IsErr result }
+    /// What was asked for is done.
+    pub fn done(text: Vec<u8>) -> Ending
+        ensures { result ≡ done text.items }
+    {
+        Ending::with(Status::Done, text)
+    }
+
+    /// What was asked for is done, and these bytes are to be saved.
+    pub fn done_with(bytes: Vec<u8>, text: Vec<u8>) -> Ending
+        ensures { result ≡ done_with bytes.items text.items }
+    {
+        Ending {
+            status: Status::Done,
+            text,
+            saved: Some(bytes),
+        }
+    }
+
+    /// What was delivered isn't accepted.
+    pub fn refused(text: Vec<u8>) -> Ending
+        ensures { result ≡ refused text.items }
+    {
+        Ending::with(Status::NotAccepted, text)
+    }
+
+    /// A file isn't as its format says.
+    pub fn bad_input(text: Vec<u8>) -> Ending
+        ensures { result ≡ bad_input text.items }
+    {
+        Ending::with(Status::BadInput, text)
+    }
+
+    /// The words have none of the forms.
+    pub fn words(alloc: Global) -> Result<Ending, NoMemory>
+        ensures { IfOk result (λ e. e ≡ no_words) }
+    {
+        Ok(Ending::with(Status::Words, Line::new(alloc, "words")?.end()?))
+    }
+
+    /// A file wasn't loaded or saved. None is made for want of memory.
+    pub fn not_stored(alloc: Global, name: &str, fail: LoadFail) -> Result<Ending, NoMemory>
+        ensures ending { IfOk result (λ e. e ≡ not_stored name.now fail) }
+        ensures fault { IfOk result (λ _. fail ≢ LoadFail.NoMemory) }
     {
         let what = match fail {
             LoadFail::Failed => "failed",
@@ -40,36 +96,7 @@ impl Ending {
             LoadFail::TooLong => "too-long",
             LoadFail::NoMemory => return Err(NoMemory),
         };
-        Ok(Ending {
-            status: Status::Store,
-            text: Line::new(alloc, "store")?.word(name)?.word(what)?.end()?,
-        })
-    }
-}
-
-impl Ending {
-    /// A trace refutes a formula.
-    pub fn verified(alloc: Global) -> Result<Ending, NoMemory>
-        ensures { IfOk result (λ e. (e.status ≡ Status.Done) × (e.text.items ≡ ended (codes "verified"))) }
-    {
-        Ok(Ending {
-            status: Status::Done,
-            text: Line::new(alloc, "verified")?.end()?,
-        })
-    }
-}
-
-/// Writes the text that is due by one put, and answers the status.
-pub fn finish<O: Sink>(out: &mut O, ending: Result<Ending, NoMemory>) -> Status
-    ensures put { IfOk ending (λ e. Put e.status e.text.items (O.held out.old) (O.held out.new) (O.faults out.old) (O.faults out.new) result) }
-    ensures memory { OnErr ending ((result ≡ Status.Memory) × (out.new ≡ out.old)) }
-{
-    let Ok(ending) = ending else {
-        return Status::Memory;
-    };
-    match out.put(&ending.text) {
-        Ok(()) => ending.status,
-        Err(PutFail::Failed) => Status::Sink,
-        Err(PutFail::NoMemory) => Status::Memory,
+        let line = Line::new(alloc, "store")?.word(name)?.word(what)?;
+        Ok(Ending::with(Status::Store, line.end()?))
     }
 }

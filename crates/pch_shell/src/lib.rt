@@ -1,19 +1,20 @@
-//! The program's commands, from words to the line that is written and the exit status.
+//! The program's commands, from words to the text that is written and the exit status.
+//!
+//! A run goes one way: the words are those of a command; its files are loaded in their order
+//! (`loading`); the command works on their bytes (`commands`, a file each) and comes to an `Ending`;
+//! what is to be saved is saved, and the text is written by one put (`finishing`). `calls` has the
+//! public calls. `specs/Runs` says what a run comes to, and `specs/Check`, `Verify`, `Cnf` and `Compact`
+//! what each command finds.
 #![tactic(auto)]
 
-mod check;
+mod calls;
 mod commands;
 mod ending;
-mod fault_lines;
-mod limits;
-mod line;
-mod shown;
-mod spec;
+mod finishing;
+mod loading;
 mod status;
 #[cfg(test)]
 mod tests;
-mod verifying;
-mod words;
 
-pub use commands::{command, top};
+pub use calls::{command, top};
 pub use status::Status;

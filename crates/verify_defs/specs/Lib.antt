@@ -1,3 +1,4 @@
 pub mod Acceptance
+pub mod Compacting
 pub mod Deliveries
 pub mod Refusals

@@ -2,7 +2,8 @@
 //! miter of the agreed network and the bundle's own configuration.
 //!
 //! `specs/Acceptance` says which bundles are accepted, `specs/Refusals` why any other isn't, and
-//! `specs/Deliveries` which miter a bundle gives with a network, whatever its trace is.
+//! `specs/Deliveries` which miter a bundle gives with a network, whatever its trace is, and
+//! `specs/Compacting` the bundle with a compacted trace.
 #![tactic(auto)]
 
 mod miter_error;

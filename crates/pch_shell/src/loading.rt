@@ -69,6 +69,7 @@ impl Loaded {
 }
 
 /// The file that wasn't loaded, and why; memory may have been wanting.
+#[derive(Clone, Copy, Debug)]
 pub struct NotLoaded<'a> {
     pub name: &'a str,
     pub fail: LoadFail,

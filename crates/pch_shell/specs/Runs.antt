@@ -40,6 +40,12 @@ pub record NotSaved (out : Option (List ℕ)) (old new : StoreState) (name : Lis
   pub others : Spoils old.files new.files name
   pub counted : Rose old.faults new.faults
 
+-- what is told once the save was tried: what the command comes to, or that the save failed
+abbrev pub AfterSave : Option (List ℕ) → Outcome → (old new : StoreState) → Outcome → Type 0
+AfterSave out outcome old new told =
+    (AreSaved out outcome.saved old new × (told ≡ outcome))
+    ⊎ ((name : List ℕ) × NotSaved out old new name × (told ≡ not_stored name Failed))
+
 -- ---- what is told
 
 -- all files were loaded, and what the command comes to is saved and told; or the save failed, which is told
@@ -48,8 +54,7 @@ pub record Works (form : Form) (old new : StoreState) (told : Outcome) : Type 0 
   pub loaded : AreLoaded old.files (files_of form) files
   pub outcome : Outcome
   pub due : FilesDue form files outcome
-  pub saved : (AreSaved (out_of form) outcome.saved old new × (told ≡ outcome))
-      ⊎ ((name : List ℕ) × NotSaved (out_of form) old new name × (told ≡ not_stored name Failed))
+  pub saved : AfterSave (out_of form) outcome old new told
 
 -- a file wasn't loaded, which is told; nothing was saved
 pub record StopsAtLoad (form : Form) (old new : StoreState) (told : Outcome) : Type 0 where

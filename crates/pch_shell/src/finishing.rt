@@ -1,10 +1,8 @@
 //! What is left to do once it is known what a command comes to: its save, and its text.
 
-ghost use Rattle.std.specs.Prelude.{◌≡◌, ◌⊎◌, ℕ, List, IfOk, OnErr};
+ghost use Rattle.std.specs.Prelude.{◌≡◌, IfOk, OnErr};
 ghost use Rattle.std.specs.Option.{option_map};
-ghost use Rattle.pch_io.specs.declared.store.LoadFail.TheVariants.{Failed};
-ghost use Rattle.pch_shell.specs.Outcomes.{not_stored};
-ghost use Rattle.pch_shell.specs.Runs.{StoreState, OnlyOut, AreSaved, NotSaved, Put};
+ghost use Rattle.pch_shell.specs.Runs.{OnlyOut, AfterSave, Put};
 
 use crate::ending::Ending;
 use crate::status::Status;
@@ -19,14 +17,11 @@ pub fn save<S: Store>(
     out: Option<&str>,
     ending: Ending,
 ) -> Result<Ending, NoMemory>
-    ensures saved { IfOk result (λ told.
-        let name = option_map (λ word. word.now) out in
-        let old : StoreState = record { files = S.files store.old; faults = S.faults store.old } in
-        let new : StoreState = record { files = S.files store.new; faults = S.faults store.new } in
-        (AreSaved name ending.saved old new × (told ≡ ending))
-        ⊎ ((n : List ℕ) × NotSaved name old new n × (told ≡ not_stored n Failed))) }
+    ensures saved { IfOk result (AfterSave (option_map (λ word. word.now) out.entry) ending
+        (record { files = S.files store.old; faults = S.faults store.old })
+        (record { files = S.files store.new; faults = S.faults store.new })) }
     ensures files { OnErr result
-        (OnlyOut (option_map (λ word. word.now) out) (S.files store.old) (S.files store.new)) }
+        (OnlyOut (option_map (λ word. word.now) out.entry) (S.files store.old) (S.files store.new)) }
 {
     match (out, &ending.saved) {
         (Some(name), Some(bytes)) => match store.save(name, bytes) {

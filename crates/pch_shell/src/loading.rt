@@ -1,6 +1,6 @@
 //! The loads of a command, in the order of its files.
 
-ghost use Rattle.std.specs.Prelude.{◌≡◌, ℕ, [], ◌∷◌, ◌++◌, map, length, IfOk, IfErr, OnOk, OnErr};
+ghost use Rattle.std.specs.Prelude.{◌≡◌, ℕ, List, [], ◌∷◌, ◌++◌, map, length, IfOk, IfErr, OnOk};
 ghost use Rattle.pch_io.specs.Outside.{Loads, LoadCause};
 ghost use Rattle.pch_lines.specs.Commands.{file_seen};
 ghost use Rattle.pch_shell.specs.Loading.{AreLoaded, IsNotLoaded};

@@ -1,13 +1,17 @@
 //! `compact BUNDLE OUT`: a bundle of version 1 becomes one of version 2, whose trace has the sign for
 //! each derived clause but the last.
 
-ghost use Rattle.std.specs.Prelude.{◌≡◌, ◌≢◌, length, IfOk, codes};
+ghost use Rattle.std.specs.Prelude.{◌≡◌, ◌≢◌, ℕ, List, length, IfOk, codes};
+ghost use Rattle.sat_text_defs.specs.TraceText.{TraceText};
+ghost use Rattle.bundle_defs.specs.Bundles.{IsBundle, bundle_bytes};
+ghost use Rattle.bundle.specs.Values.{value_of};
+ghost use Rattle.verify_defs.specs.Compacting.{compacted_bundle};
 ghost use Rattle.sat_text_defs.specs.declared.errors.TraceError.{TraceError};
 ghost use Rattle.bundle_defs.specs.declared.faults.BundleError.{BundleError};
 ghost use Rattle.pch_lines.specs.Lines.{and_word};
 ghost use Rattle.pch_lines.specs.FaultLines.{bundle_line, trace_line};
 ghost use Rattle.pch_shell.specs.Outcomes.{done_with, bad_input};
-ghost use Rattle.pch_shell.specs.Compact.{IsCompaction, CompactDue, written_line};
+ghost use Rattle.pch_shell.specs.Compact.{CompactDue, written_line};
 
 use crate::ending::Ending;
 use bundle::{Bundle, BundleError, print_bundle, read_bundle};
@@ -36,6 +40,12 @@ pub fn run(alloc: Global, name: &str, bytes: Vec<u8>) -> Result<Ending, NoMemory
 
 /// The bundle with the sign for each derived clause of its trace but the last.
 fn compacted(alloc: Global, bundle: Bundle<'_>, steps: Trace) -> Result<Ending, NoMemory>
+    requires is_bundle { IsBundle (value_of bundle) }
+    requires version { bundle.version ≡ 1 }
+    requires trace { TraceText bundle.trace.now 1 steps }
+    ensures { IfOk result (λ e. (short : List ℕ)
+        × (short ≡ bundle_bytes (compacted_bundle (value_of bundle.entry) steps))
+        × (e ≡ done_with short (written_line (length short)))) }
 {
     let trace = print_trace(alloc, &compact(alloc, steps)?)?;
     let bytes = print_bundle(alloc, 2, bundle.geometry, bundle.config, &trace)?;

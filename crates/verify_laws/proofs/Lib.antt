@@ -1,0 +1,4 @@
+pub mod Compacted
+pub mod Judging
+pub mod Outcomes
+pub mod Parts

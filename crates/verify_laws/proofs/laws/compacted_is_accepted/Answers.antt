@@ -1,0 +1,5 @@
+use Rattle.verify_laws.proofs.Compacted.{accepted-compacted}
+use Rattle.verify_laws.proofs.laws.compacted_is_accepted.Goals as goal
+
+pub returns : goal.returns
+returns c = accepted-compacted

@@ -1,0 +1,6 @@
+pub mod CheckLemmas
+pub mod CnfLemmas
+pub mod CompactLemmas
+pub mod LoadLemmas
+pub mod RunLemmas
+pub mod VerifyLemmas

@@ -1,5 +1,2 @@
-pub mod Acceptance
-pub mod Refusals
-pub mod Conversions
-pub mod Checked
 pub mod Answers
+pub mod Checked

@@ -1,20 +1,19 @@
-//! What a consumer accepts: a bundle whose trace refutes the miter of the agreed network and the
-//! bundle's own configuration.
+//! The consumer's judgement: a bundle is accepted where its trace refutes the miter of the agreed
+//! network and the bundle's own configuration, which the consumer makes itself.
 //!
 //! `verify` judges the bytes of a bundle. `Verified` is what it answers where it accepts: a net and a
-//! configuration that are equal, which the type keeps. `specs/Acceptance` says which bundles are
-//! accepted, and `specs/Refusals` why any other isn't. The functions of `laws` do nothing: their
-//! contracts say what follows from these definitions.
+//! configuration that are equal, which the type keeps. `delivered_miter` gives the miter of a bundle,
+//! whatever its trace is. The definitions stand in `verify_defs`, and what follows from them in
+//! `verify_laws`.
 #![tactic(auto)]
 
-mod laws;
-mod refusal;
+mod delivery;
 #[cfg(test)]
 mod tests;
 mod verification;
 mod verified;
 
-pub use laws::{accepted_is_equal, parts_are_unique, refusal_is_first};
-pub use refusal::Refusal;
+pub use delivery::delivered_miter;
 pub use verification::verify;
 pub use verified::Verified;
+pub use verify_defs::{MiterError, Refusal};

@@ -30,24 +30,28 @@ impl Model for Verified {
 }
 
 impl Verified {
-    /// What the type keeps: the net and the configuration are equal.
-    pub fn known(&self)
-        ensures { Equal self.now.net self.now.config }
-    {
-        let _net = &self.net;
-    }
-
     /// The net.
     pub fn net(&self) -> &Arc<Net>
-        ensures { arc_value result.now ≡ self.now.net }
+        ensures net { arc_value result.now ≡ self.now.net }
+        ensures equal { Equal self.now.net self.now.config }
     {
         &self.net
     }
 
     /// The configuration.
     pub fn config(&self) -> &Arc<Config>
-        ensures { arc_value result.now ≡ self.now.config }
+        ensures config { arc_value result.now ≡ self.now.config }
+        ensures equal { Equal self.now.net self.now.config }
     {
         &self.config
+    }
+
+    /// The net and the configuration, given up.
+    pub fn into_parts(self) -> (Arc<Net>, Arc<Config>)
+        ensures net { arc_value result.0 ≡ self.net }
+        ensures config { arc_value result.1 ≡ self.config }
+        ensures equal { Equal self.net self.config }
+    {
+        (self.net, self.config)
     }
 }

@@ -1,4 +1,0 @@
-pub mod Parts
-pub mod Outcomes
-pub mod Reading
-pub mod Judging

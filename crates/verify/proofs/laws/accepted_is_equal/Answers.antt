@@ -1,5 +1,0 @@
-use Rattle.verify.proofs.Parts.{equal_where_accepted}
-use Rattle.verify.proofs.laws.accepted_is_equal.Goals as goal
-
-pub returns : goal.returns
-returns c = equal_where_accepted

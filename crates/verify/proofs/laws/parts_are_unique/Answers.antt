@@ -1,5 +1,0 @@
-use Rattle.verify.proofs.Parts.{same_fabric, same_config, same_trace, same_cells_of_parts}
-use Rattle.verify.proofs.laws.parts_are_unique.Goals as goal
-
-pub returns : goal.returns
-returns c = record { fabric = same_fabric; config = same_config; trace = same_trace; cells = same_cells_of_parts }

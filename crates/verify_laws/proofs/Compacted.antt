@@ -1,8 +1,8 @@
 -- A compacted bundle is accepted where the old one was: its trace is as short, is read again, and refutes what the
 -- old one refuted.
-use Rattle.std.proofs.Common.{◌≡◌, ◌≢◌, ℕ, ◌+◌, ◌*◌, ◌^◌, ◌<◌, ◌≤◌, List, length, Ok, refl, sym, subst, ap, ◌∙◌, arith}
-use Rattle.clause_defs.specs.Traces.{Entry, IsTrace}
-use Rattle.clause_defs.specs.Compaction.{compacted, AllStated, derived_literals}
+use Rattle.std.proofs.Common.{◌≡◌, ℕ, ◌^◌, ◌<◌, ◌≤◌, List, length, refl, subst, ap, ◌∙◌, arith}
+use Rattle.clause_defs.specs.Traces.{Entry}
+use Rattle.clause_defs.specs.Compaction.{compacted}
 use Rattle.clause_defs.specs.declared.verdict.TheConstants.{MAX_COMPUTED}
 use Rattle.clause_laws.proofs.CompactTraces.{IsTrace-compacted, compacted_refutes}
 use Rattle.sat_text_defs.specs.declared.limits.TheConstants.{MAX_TRACE_BYTES}
@@ -16,10 +16,9 @@ use Rattle.net_defs.specs.Networks.{Network}
 use Rattle.fabric_defs.specs.Geometries.{GeometryValue}
 use Rattle.fabric_defs.specs.Configurations.{ConfigValue}
 use Rattle.fabric_defs.specs.declared.kind.CellKind.{CellKind}
-use Rattle.cell_defs.specs.Cells.{CellsValue}
 use Rattle.miter_defs.specs.Miters.{Miter}
 use Rattle.bundle_defs.specs.Bundles.{BundleValue, IsBundle, BundleText, bundle_bytes, kind_of_version}
-use Rattle.verify_defs.specs.Acceptance.{HasParts, HasConfigFor, AcceptsWith}
+use Rattle.verify_defs.specs.Acceptance.{HasConfigFor, AcceptsWith}
 use Rattle.verify_defs.specs.Compacting.{compacted_bundle}
 use Rattle.verify_laws.proofs.Parts.{bundle_unique}
 
@@ -63,8 +62,8 @@ accepted-compacted bytes bundle steps text one reads room g net config accepted 
     let parts = accepted.parts in
     let same : parts.bundle ≡ bundle = bundle_unique bytes parts.bundle bundle parts.is_bundle.text text in
     let read : TraceText bundle.trace 1 accepted.steps =
-      subst (λ v. TraceText bundle.trace v accepted.steps) one
-      (subst (λ (b : BundleValue). TraceText b.trace b.version accepted.steps) same parts.trace) in
+    subst (λ v. TraceText bundle.trace v accepted.steps) one
+    (subst (λ (b : BundleValue). TraceText b.trace b.version accepted.steps) same parts.trace) in
     let same_steps : accepted.steps ≡ steps = only_trace bundle.trace 1 accepted.steps steps read reads in
     let few = derived-few bundle.trace 1 steps reads in
     let limit : length bundle.trace ≤ MAX_TRACE_BYTES = reads.0 in
@@ -80,8 +79,11 @@ accepted-compacted bytes bundle steps text one reads room g net config accepted 
         has_config = subst (λ (b : BundleValue). HasConfigFor g b config) same parts.has_config;
         trace = compacted-reads bundle.trace steps reads room;
       };
-      refutes = (accepted.refutes.0, accepted.refutes.1,
+      refutes = (
+        accepted.refutes.0,
+        accepted.refutes.1,
         compacted_refutes (Miter net accepted.refutes.0).clauses steps MAX_COMPUTED MAX_COMPUTED reads.1.trace
-        (first_version-stated bundle.trace steps reads)
-        (rw same_steps at accepted.refutes.2) (omega arith));
+            (first_version-stated bundle.trace steps reads)
+            (rw same_steps at accepted.refutes.2) (omega arith),
+      );
     }

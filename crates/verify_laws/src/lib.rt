@@ -7,6 +7,4 @@
 
 mod laws;
 
-pub use laws::{
-    accepted_is_equal, compacted_is_accepted, parts_are_unique, refusal_is_first,
-};
+pub use laws::{accepted_is_equal, compacted_is_accepted, parts_are_unique, refusal_is_first};

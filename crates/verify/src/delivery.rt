@@ -2,7 +2,7 @@
 
 ghost use Rattle.std.specs.Prelude.{◌≡◌, IfOk, IfErr};
 ghost use Rattle.net_defs.specs.Networks.{Network};
-ghost use Rattle.sat_text.specs.Values.{formula_of};
+ghost use Rattle.sat_values.specs.CnfFormula.{formula_of};
 ghost use Rattle.verify_defs.specs.Deliveries.{HasConfig, IsDeliveredMiter, LacksMiter};
 
 use bundle::read_bundle;

@@ -26,12 +26,12 @@ use Rattle.verify_laws.proofs.Parts.{bundle_unique}
 kind_of_two : (v : ℕ) (kind : CellKind) → v ≡ 1 → kind ≡ kind_of_version v → kind ≡ kind_of_version 2
 kind_of_two v kind one of = of ∙ ap kind_of_version one
 
--- the trace of the compacted bundle is shorter than four bytes can spell
-pub compacted-fits : (bundle : BundleValue) (steps : List Entry) → TraceText bundle.trace 1 steps
+-- the printed compacted trace is shorter than four bytes can spell
+pub compacted-fits : (text : List ℕ) (steps : List Entry) → TraceText text 1 steps
     → length (trace_text (compacted steps)) < 2 ^ 32
-compacted-fits bundle steps text =
-    let short = compacted-short bundle.trace 1 steps text in
-    let limit : length bundle.trace ≤ MAX_TRACE_BYTES = text.0 in
+compacted-fits text steps reads =
+    let short = compacted-short text 1 steps reads in
+    let limit : length text ≤ MAX_TRACE_BYTES = reads.0 in
     omega arith
 
 -- the compacted bundle is one
@@ -42,7 +42,7 @@ compacted-is_bundle bundle steps is one text = record {
   kind = kind_of_two bundle.version bundle.geometry.kind one is.kind;
   geometry = is.geometry;
   config = is.config;
-  trace = compacted-fits bundle steps text;
+  trace = compacted-fits bundle.trace steps text;
 }
 
 -- the compacted trace is read again

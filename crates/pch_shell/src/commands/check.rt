@@ -13,7 +13,8 @@ use chain_check::check_trace;
 use clause_defs::Verdict;
 use pch_base::NoMemory;
 use pch_lines::{Line, cnf_line, trace_line, verdict_line};
-use sat_text::{ClauseSet, CnfError, TraceError, read_cnf, read_compact};
+use sat_text::{CnfError, TraceError, read_cnf, read_compact};
+use sat_values::ClauseSet;
 use std::alloc::Global;
 
 /// Reads the bytes of both files, and checks. Each file's bytes are let go once they were read.

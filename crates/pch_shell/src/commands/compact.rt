@@ -17,7 +17,8 @@ use crate::ending::Ending;
 use bundle::{Bundle, BundleError, print_bundle, read_bundle};
 use pch_base::NoMemory;
 use pch_lines::{Line, bundle_line, trace_line};
-use sat_text::{Trace, TraceError, compact, print_trace, read_trace};
+use sat_text::{Trace, TraceError, print_trace, read_trace};
+use sat_values::compact;
 use std::alloc::Global;
 
 /// Reads the bundle and its trace, and compacts it. The configuration isn't looked at.

@@ -1,5 +1,5 @@
 use Rattle.std.proofs.Common.{rules, refl}
-use Rattle.sat_text.specs.Values.{formula_of}
+use Rattle.sat_values.specs.CnfFormula.{formula_of}
 use Rattle.cnf_text_laws.proofs.OverVariables.{formula_within}
 use Rattle.pch_shell.proofs.CheckLemmas.{bad_cnf_due, bad_trace_due, verified_due, refused_due}
 use Rattle.pch_shell.proofs.commands.check.run.Goals as goal

@@ -1,0 +1,7 @@
+use Rattle.pch_shell.proofs.calls.work.Goals as goal
+
+pub returns-in-Cnf : goal.returns-in-Cnf
+returns-in-Cnf g c = rw (c.in-Cnf.is, c.two-spec_bytes-in-Cnf.ensures) c.run-in-Cnf.ensures
+
+pub returns-in-Compact : goal.returns-in-Compact
+returns-in-Compact g c = rw (c.in-Compact.is, c.one.ensures) c.run-in-Compact.ensures

@@ -1,0 +1,14 @@
+use Rattle.std.proofs.Common.{rules}
+use Rattle.bundle.specs.Values.{value_of}
+use Rattle.pch_shell.proofs.CompactLemmas.{trace_fits, compacted_is}
+use Rattle.pch_shell.proofs.commands.compact.compacted.Goals as goal
+
+pub print_bundle-requires-clause-trace : goal.print_bundle-requires-clause-trace
+print_bundle-requires-clause-trace c =
+    trace_fits _ _ _ c.args.steps c.args.bundle.trace.now c.deref.ensures.value c.in_ok-trace.ensures c.in_ok-compact.ensures
+    c.requires.trace
+
+pub returns : goal.returns
+returns c =
+    compacted_is c.in_ok-bytes.bytes.items _ _ _ c.args.steps (value_of c.args.bundle) c.done_with.result c.in_ok-bytes.ensures
+    c.deref.ensures.value c.in_ok-trace.ensures c.in_ok-compact.ensures (search rules)

@@ -1,5 +1,5 @@
 -- What follows of the miter's clauses.
-use Rattle.std.proofs.Common.{◌≡◌, ℕ, List, refl, subst, sym, arith}
+use Rattle.std.proofs.Common.{◌≡◌, ℕ, List, subst, arith}
 use Rattle.clause_defs.specs.Clauses.{Lits, Has, WithinVariables, Unsat}
 use Rattle.net_defs.specs.Networks.{Network}
 use Rattle.net_defs.specs.Nets.{IsNet}

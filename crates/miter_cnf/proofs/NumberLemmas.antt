@@ -1,9 +1,8 @@
 -- The numbers of a numbering: where they are found, that they are those of the network and the cells, and that
 -- they are few enough.
-use Rattle.std.proofs.Common.{◌≡◌, ℕ, ◌+◌, ◌<◌, ◌≤◌, Bool, cond, List, [], ◌∷◌, length, map, take, get_or, sum, sum_by, ⊎_elim, refl, ap, sym, subst, ◌∙◌, arith}
+use Rattle.std.proofs.Common.{◌≡◌, ℕ, ◌+◌, ◌<◌, ◌≤◌, Bool, List, [], ◌∷◌, length, map, take, get_or, sum, sum_by, ap, ◌∙◌, arith}
 use Rattle.std.specs.List.{count_by}
-use Rattle.std.proofs.lemmas.List.{take-map, length-map, get_or-map, get_or_read}
-use Rattle.std.proofs.lemmas.Bool.{cases_lt, lt-ltb, le-ltb}
+use Rattle.std.proofs.lemmas.List.{take-map, length-map, get_or_read}
 use Rattle.std.proofs.lemmas.List.Sums.{sum_by_more_le, sum_by-take-le, sum_by-cons, sum-map}
 use Rattle.clause_defs.specs.declared.verdict.TheConstants.{MAX_VARIABLE}
 use Rattle.blif_defs.specs.declared.mark.Mark.{Mark}
@@ -13,7 +12,7 @@ use Rattle.net_defs.specs.Nets.{row_count, rows_size, IsNet}
 use Rattle.fabric_defs.specs.Numbered.{list_of}
 use Rattle.fabric_laws.proofs.NumberedLemmas.{length-list_of, get_or-list_of}
 use Rattle.cell_defs.specs.Cells.{CellsValue}
-use Rattle.miter_defs.specs.Numberings.{rows_before, cone_before, cone_size, row_variable, cell_variable, difference_variable, variable_count, source_variable}
+use Rattle.miter_defs.specs.Numberings.{rows_before, row_variable, cell_variable, difference_variable, variable_count}
 use Rattle.miter_laws.proofs.Ranges.{variable_count-le}
 use Rattle.miter_cnf.specs.Numbered.{NumberingValue, numbering_of, sum_before, flags_before, first_row, first_cell, first_difference, IsVariable, IsNumbering}
 use Rattle.miter_cnf.specs.Circuits.{AreCircuits}

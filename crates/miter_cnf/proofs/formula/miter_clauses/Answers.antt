@@ -1,4 +1,4 @@
-use Rattle.std.proofs.Common.{◌≡◌, ap, ◌∙◌}
+use Rattle.std.proofs.Common.{ap, ◌∙◌}
 use Rattle.miter_defs.specs.Numberings.{variable_count}
 use Rattle.miter_defs.specs.Miters.{Miter}
 use Rattle.miter_cnf.specs.Circuits.{Circuits}

@@ -1,0 +1,6 @@
+pub mod Spans
+pub mod Signals
+pub mod Demands
+pub mod Tracks
+pub mod Placed
+pub mod Routes

@@ -21,7 +21,10 @@ pub fn delivered_miter(alloc: Global, net: &Net, bytes: &[u8]) -> Result<Cnf, Mi
     ensures miter { IfOk result (λ f. IsDeliveredMiter net.now bytes.now (formula_of f)) }
     ensures fault { IfErr result (LacksMiter net.now bytes.now) }
 {
-    let config = config_of(alloc, bytes)?;
+    let config = match config_of(alloc, bytes) {
+        Ok(config) => config,
+        Err(error) => return Err(error),
+    };
     if !fits_pads(net, config.geometry()) {
         return Err(MiterError::Pads);
     }

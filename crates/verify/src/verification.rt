@@ -14,13 +14,13 @@ ghost use Rattle.verify.specs.Answers.{RefusesFitting, Misses};
 
 use crate::verified::Verified;
 use bundle::{Bundle, read_bundle};
-use chain_check::check_trace;
 use clause_defs::Verdict;
 use extract::extract;
 use fabric::{Config, Geometry};
 use fabric_bytes::read_config;
 use miter_cnf::{fits_pads, miter};
 use netlist::Net;
+use par_check::check_pieces;
 use sat_text::{Trace, TraceError, read_compact, read_trace};
 use std::alloc::Global;
 use std::sync::Arc;
@@ -34,10 +34,10 @@ use verify_defs::Refusal;
 /// and the configuration. It has the given net and the bundle's configuration, which are equal. Else
 /// the first test that fails (`FirstRefusal`), or `NoMemory`.
 ///
-/// `pieces`, from 1 to 64, is how many pieces of the trace may be checked at once. It has no effect
-/// yet: one thread does all the work.
+/// `pieces`, from 1 to 64, is how many pieces of the trace may be checked at once, on threads of their
+/// own. The answer is the same for each number.
 pub fn verify<R: Threads + Sync>(
-    _rt: &R,
+    rt: &R,
     alloc: Global,
     net: &Arc<Net>,
     g: Geometry,
@@ -51,7 +51,7 @@ pub fn verify<R: Threads + Sync>(
     ensures equal { IfOk result (λ v. Equal v.net v.config) }
     ensures refused { IfErr result (Refuses g (arc_value net.now) bytes.now) }
 {
-    let config = accepted_config(alloc, net, g, bytes)?;
+    let config = accepted_config(rt, alloc, net, g, bytes, pieces)?;
     Ok(Verified {
         net: net.clone()?,
         config: Arc::new(alloc, config)?,
@@ -59,7 +59,16 @@ pub fn verify<R: Threads + Sync>(
 }
 
 /// The configuration of accepted bytes, which equals the net.
-fn accepted_config(alloc: Global, net: &Net, g: Geometry, bytes: &[u8]) -> Result<Config, Refusal>
+fn accepted_config<R: Threads + Sync>(
+    rt: &R,
+    alloc: Global,
+    net: &Net,
+    g: Geometry,
+    bytes: &[u8],
+    pieces: u32,
+) -> Result<Config, Refusal>
+    requires some_piece { 1 ≤ pieces }
+    requires few_pieces { pieces ≤ 64 }
     ensures accepted { IfOk result (AcceptsWith g net.now bytes.now) }
     ensures equal { IfOk result (Equal net.now) }
     ensures refused { IfErr result (Refuses g net.now bytes.now) }
@@ -68,7 +77,7 @@ fn accepted_config(alloc: Global, net: &Net, g: Geometry, bytes: &[u8]) -> Resul
         return Err(Refusal::Pads);
     }
     let (config, trace) = parts_of(alloc, g, bytes)?;
-    refute_miter(alloc, net, &config, &trace)?;
+    refute_miter(rt, alloc, net, &config, &trace, pieces)?;
     Ok(config)
 }
 
@@ -112,7 +121,16 @@ fn trace_of(alloc: Global, bundle: Bundle<'_>) -> Result<Trace, TraceError>
 
 /// Checks the trace against the miter of the net and the configuration. Where it refutes the miter, the
 /// two are equal.
-fn refute_miter(alloc: Global, net: &Net, config: &Config, trace: &Trace) -> Result<(), Refusal>
+fn refute_miter<R: Threads + Sync>(
+    rt: &R,
+    alloc: Global,
+    net: &Net,
+    config: &Config,
+    trace: &Trace,
+    pieces: u32,
+) -> Result<(), Refusal>
+    requires some_piece { 1 ≤ pieces }
+    requires few_pieces { pieces ≤ 64 }
     requires fits { FitsPads net.now config.now.geometry }
     requires config { IsConfig config.now }
     ensures refutes { OnOk result (ShowsOfMiter net.now config.now trace.now Refutes) }
@@ -121,7 +139,7 @@ fn refute_miter(alloc: Global, net: &Net, config: &Config, trace: &Trace) -> Res
 {
     let cells = extract(alloc, config)?;
     let miter = miter(alloc, net, &cells)?;
-    match check_trace(alloc, &miter, trace)? {
+    match check_pieces(rt, alloc, &miter, trace, pieces)? {
         Verdict::Refutes => Ok(()),
         verdict => Err(Refusal::Verdict(verdict)),
     }

@@ -1,5 +1,5 @@
 -- What the readers of the parts of a bundle answer, as refusals of the bundle.
-use Rattle.std.proofs.Common.{◌≡◌, ◌≢◌, ◌⊎◌, inl, inr, ℕ, List, length, Ok, Err, sym, subst}
+use Rattle.std.proofs.Common.{◌≡◌, ◌≢◌, ◌⊎◌, inl, inr, ℕ, List, length, Err, sym, subst}
 use Rattle.sat_text_defs.specs.declared.errors.TraceError.{TraceError}
 use Rattle.sat_text_defs.specs.declared.errors.TraceError.TheVariants as trace_errors
 use Rattle.sat_text_defs.specs.TraceReading.{trace_in}

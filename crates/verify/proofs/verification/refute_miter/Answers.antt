@@ -13,7 +13,15 @@ pub returns : goal.returns
 returns g c = record {
   refutes = tt;
   equal = tt;
-  refused = inr (c.in_ok-verdict.verdict, refl, c.in_default.not-Refutes, (c.in_ok-cells.cells, c.in_ok-cells.ensures,
-    subst (λ (f : Formula). VerdictOf f.clauses c.args.trace.now MAX_COMPUTED c.in_ok-verdict.verdict) c.in_ok-miter.ensures.formula
-    c.in_ok-verdict.ensures.verdict));
+  refused = inr (
+    c.in_ok-verdict.verdict,
+    refl,
+    c.in_default.not-Refutes,
+    (
+      c.in_ok-cells.cells,
+      c.in_ok-cells.ensures,
+      subst (λ (f : Formula). VerdictOf f.clauses c.args.trace.now MAX_COMPUTED c.in_ok-verdict.verdict) c.in_ok-miter.ensures.formula
+          c.in_ok-verdict.ensures.verdict,
+    ),
+  );
 }

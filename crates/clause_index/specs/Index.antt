@@ -3,7 +3,7 @@ use Rattle.std.specs.Prelude.{◌≡◌, ℕ, ◌<◌, ◌≤◌, ◌⊎◌, Lis
 use Rattle.clause_defs.specs.Literals.{Literal}
 use Rattle.clause_defs.specs.Clauses.{Lits}
 use Rattle.flat_lists.specs.Flat.{Flat, total}
-use Rattle.clause_index.specs.Runs.{clause_at, AreRuns, AnyHas, HaveRoom}
+use Rattle.clause_index.specs.Runs.{clause_at, AreKeys, AreRuns, AnyHas, HaveRoom}
 use Rattle.clause_index.specs.Slots.{AreSlots, StandsInSlot}
 use Rattle.clause_index.specs.declared.runs.TheConstants.{MOST_RUNS}
 
@@ -17,8 +17,7 @@ pub record Indexed : Type 0 where
 abbrev pub Stands : List Lits → ℕ → List ℕ → List ℕ → List (List ℕ) → ℕ → Type 0
 Stands f groups tags numbers runs k = StandsInSlot groups tags numbers (clause_at f k) k ⊎ AnyHas runs k
 
--- The slots and the runs are an index of the first n clauses, and have room for so many. No look-up looks
--- at more than the slots of one group, and at more runs than MOST_RUNS.
+-- the slots and the runs are an index of the first n clauses, and have room for so many
 pub record IsIndex (f : List Lits) (groups : ℕ) (tags numbers : List ℕ) (runs : Flat ℕ) (first second room n : ℕ) : Type 0 where
   pub slots : AreSlots groups tags numbers n
   pub sorted : AreRuns f runs.lists
@@ -33,6 +32,9 @@ abbrev pub FitClauses : Flat Literal → ℕ → Type 0
 FitClauses lists room = length lists.lists ≡ room ⊎ room ≤ lists.list_room
 
 -- the slots and the runs are an index of all clauses, for which there is room
-pub record IsIndexed (clauses : Flat Literal) (groups : ℕ) (tags numbers : List ℕ) (runs : Flat ℕ) (first second room : ℕ) : Type 0 where
+pub record IsIndexed (clauses : Flat Literal) (keys : List ℕ) (key_room groups : ℕ) (tags numbers : List ℕ) (runs : Flat ℕ)
+    (first second room : ℕ) : Type 0 where
   pub index : IsIndex clauses.lists groups tags numbers runs first second room (length clauses.lists)
   pub fit : FitClauses clauses room
+  pub keys_are : AreKeys clauses.lists keys
+  pub keys_fit : (length keys ≡ room) ⊎ (room ≤ key_room)

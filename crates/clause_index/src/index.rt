@@ -1,10 +1,11 @@
 //! Clauses with their index.
 ghost use Rattle.std.specs.Prelude.{◌≡◌, ◌≢◌, ℕ, ◌+◌, ◌^◌, ◌<◌, ◌≤◌, ◌++◌, [], ◌∷◌, length, slice_get, Some, IfSome, IfNone, IfOk, vec_capacity};
 ghost use Rattle.flat_lists.specs.Flat.{total};
+ghost use Rattle.clause_index.specs.Runs.{AreKeys};
 ghost use Rattle.clause_index.specs.Index.{IsIndex};
 
 use crate::runs::Runs;
-use crate::slots::Slots;
+use crate::slots::{Slots, key};
 use flat_lists::FlatLists;
 use pch_base::{Lit, NoMemory};
 use std::alloc::Global;
@@ -17,6 +18,8 @@ use std::marker::Model;
 #[derive(Debug, Drop)]
 pub struct ClauseIndex {
     clauses: FlatLists<Lit>,
+    // The tags of the clauses, by which they stand in runs.
+    keys: Vec<u32>,
     slots: Slots,
     runs: Runs,
     room: u32,
@@ -34,7 +37,7 @@ impl Model for ClauseIndex {
       literal_room = x.clauses.item_room;
     } };
 
-    ghost invariant = { λ x. IsIndexed x.clauses x.slots.groups x.slots.tags.items x.slots.numbers.items x.runs.runs (vec_capacity x.runs.run) (vec_capacity x.runs.merged) x.room };
+    ghost invariant = { λ x. IsIndexed x.clauses x.keys.items (vec_capacity x.keys) x.slots.groups x.slots.tags.items x.slots.numbers.items x.runs.runs (vec_capacity x.runs.run) (vec_capacity x.runs.merged) x.room };
 }
 
 impl ClauseIndex {
@@ -47,6 +50,7 @@ impl ClauseIndex {
     {
         Ok(ClauseIndex {
             clauses: FlatLists::with_capacity(alloc, clauses as usize, literals as usize)?,
+            keys: Vec::with_capacity(alloc, clauses as usize)?,
             slots: Slots::with_room(alloc, clauses)?,
             runs: Runs::with_room(alloc, clauses)?,
             room: clauses,
@@ -58,14 +62,16 @@ impl ClauseIndex {
         ensures { IfOk result (λ x. x.clauses ≡ clauses.lists) }
     {
         let len = clauses.len();
+        let keys = keys_of(alloc, &clauses)?;
         let mut slots = Slots::with_room(alloc, len)?;
         let mut runs = Runs::with_room(alloc, len)?;
         for k in 0..len {
-            add(&clauses, &mut slots, &mut runs, len, k);
+            add(&clauses, &keys, &mut slots, &mut runs, len, k);
         }
-        runs.settle(&clauses);
+        runs.settle(&clauses, &keys);
         Ok(ClauseIndex {
             clauses,
+            keys,
             slots,
             runs,
             room: len,
@@ -103,7 +109,7 @@ impl ClauseIndex {
         if let Some(k) = self.slots.find(&self.clauses, lits) {
             return Some(k);
         }
-        self.runs.find(&self.clauses, lits)
+        self.runs.find(&self.clauses, &self.keys, lits)
     }
 
     /// Appends a clause, which may be there already. Takes no memory.
@@ -117,18 +123,45 @@ impl ClauseIndex {
     {
         let k = self.clauses.len();
         self.clauses.push_reserved(lits);
-        add(&self.clauses, &mut self.slots, &mut self.runs, self.room, k);
+        self.keys.push_reserved(key(lits));
+        add(
+            &self.clauses,
+            &self.keys,
+            &mut self.slots,
+            &mut self.runs,
+            self.room,
+            k,
+        );
     }
 }
 
+// The keys of all clauses.
+fn keys_of(alloc: Global, clauses: &FlatLists<Lit>) -> Result<Vec<u32>, NoMemory>
+    ensures { IfOk result (λ keys. AreKeys clauses.now.lists keys.items) }
+{
+    let mut keys = Vec::with_capacity(alloc, clauses.len() as usize)?;
+    for k in 0..clauses.len() {
+        keys.push(key(clauses.get(k)))?;
+    }
+    Ok(keys)
+}
+
 // Puts clause `k` into the index of those before it.
-fn add(clauses: &FlatLists<Lit>, slots: &mut Slots, runs: &mut Runs, room: u32, k: u32)
+fn add(
+    clauses: &FlatLists<Lit>,
+    keys: &[u32],
+    slots: &mut Slots,
+    runs: &mut Runs,
+    room: u32,
+    k: u32,
+)
+    requires keys { AreKeys clauses.now.lists keys.now }
     requires within { k < length clauses.now.lists }
     requires room { k < room }
     requires index { IsIndex clauses.now.lists slots.old.groups slots.old.tags.items slots.old.numbers.items runs.old.runs (vec_capacity runs.old.run) (vec_capacity runs.old.merged) room k }
     ensures index { IsIndex clauses.now.lists slots.new.groups slots.new.tags.items slots.new.numbers.items runs.new.runs (vec_capacity runs.new.run) (vec_capacity runs.new.merged) room (k + 1) }
 {
     if !slots.add(clauses.get(k), k) {
-        runs.add(clauses, k);
+        runs.add(clauses, keys, k);
     }
 }

@@ -80,6 +80,13 @@ impl Slots {
     }
 }
 
+/// The tag of the literals.
+pub fn key(lits: &[Lit]) -> u32
+    ensures { result ≡ tag_of lits.now }
+{
+    tag(hash(lits))
+}
+
 // An empty slot of the group that begins with this slot.
 fn empty(numbers: &[u32], first: usize) -> Option<usize>
     requires { first + GROUP ≤ length numbers.now }

@@ -22,4 +22,6 @@ invariant_of-result c =
             kept = c.settle.ensures.kept;
           }));
       fit = inl (sym len);
+      keys_are = c.in_ok-keys.ensures;
+      keys_fit = inl (let many = c.in_ok-keys.ensures.many in omega arith);
     }

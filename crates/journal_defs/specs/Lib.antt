@@ -1,0 +1,3 @@
+pub mod Journals
+pub mod Legality
+pub mod Replies

@@ -5,3 +5,5 @@ pub mod LocalLemmas
 pub mod BitsLemmas
 pub mod MappingLemmas
 pub mod SettledLemmas
+pub mod ColumnLemmas
+pub mod UniqueLemmas

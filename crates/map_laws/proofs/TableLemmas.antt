@@ -108,7 +108,7 @@ rest_le : (k m : ℕ) → k % m ≤ k
 rest_le k m = omega (arith, div-add-mod' k m)
 
 -- the first n bits of a number are those of its rest by 2 ^ n
-bits_of-mod : (n k : ℕ) → bits_of n (k % 2 ^ n) ≡ bits_of n k
+pub bits_of-mod : (n k : ℕ) → bits_of n (k % 2 ^ n) ≡ bits_of n k
 bits_of-mod n k =
     same_lists (bits_of n (k % 2 ^ n)) (bits_of n k)
     (length-bits_of n (k % 2 ^ n) ∙ sym (length-bits_of n k))

@@ -5,6 +5,7 @@ ghost use Rattle.net_defs.specs.Nets.{IsNet};
 ghost use Rattle.net_defs.specs.Evaluation.{SpecOut};
 ghost use Rattle.map_defs.specs.Mapped.{MappedValue, AreSettled, AreMapped};
 ghost use Rattle.map_defs.specs.Outputs.{MappedBits, LutOut};
+ghost use Rattle.map_defs.specs.Columns.{AreColumns};
 ghost use Rattle.map_defs.specs.Reference.{RefMap};
 
 /// Settled cells have exactly one list of bits.
@@ -25,4 +26,16 @@ pub fn reference_has_the_outputs()
 /// The reference mapping of a net is a list of mapped cells.
 pub fn reference_is_mapped()
     ensures { (net : Network) (l : MappedValue) → IsNet net → RefMap net l → AreMapped l }
+{}
+
+/// Settled cells have exactly one list of columns.
+pub fn columns_exist()
+    ensures exist { (l : MappedValue) → AreSettled l → (columns : List ℕ) × AreColumns l columns }
+    ensures unique { (l : MappedValue) (a b : List ℕ) → AreSettled l
+        → AreColumns l a → AreColumns l b → a ≡ b }
+{}
+
+/// A net has one reference mapping.
+pub fn reference_is_unique()
+    ensures { (net : Network) (l m : MappedValue) → IsNet net → RefMap net l → RefMap net m → l ≡ m }
 {}

@@ -1,0 +1,4 @@
+pub mod LaneLemmas
+pub mod LevelLemmas
+pub mod ValueLemmas
+pub mod CountLemmas

@@ -1,5 +1,5 @@
 -- What mapped cells need of each resource of a fabric, in the order in which a refusal names it.
-use Rattle.std.specs.Prelude.{◌≡◌, ℕ, ◌+◌, ◌<◌, ◌==◌, max, if◌then◌else◌, List, [], ◌∷◌, ◌++◌, length, count_by, Option, Some, None}
+use Rattle.std.specs.Prelude.{◌≡◌, ℕ, ◌+◌, ◌==◌, max, if◌then◌else◌, List, [], ◌∷◌, ◌++◌, length, count_by, Option, Some, None}
 use Rattle.std.proofs.Common.{ltb}
 use Rattle.fabric_defs.specs.Numbered.{joined}
 use Rattle.fabric_defs.specs.Geometries.{GeometryValue}

@@ -1,6 +1,6 @@
 -- Configurations that place mapped cells: each cell in its column, below the cells of that column with
 -- lower numbers, and each signal on one track from its first channel to its last.
-use Rattle.std.specs.Prelude.{◌≡◌, ◌≢◌, ℕ, zero, suc, ◌+◌, ◌%◌, ◌^◌, ◌<◌, ◌≤◌, List, length, take, slice_index, slice_index_or}
+use Rattle.std.specs.Prelude.{◌≡◌, ◌≢◌, ℕ, zero, suc, ◌%◌, ◌^◌, ◌<◌, ◌≤◌, List, length, take, slice_index, slice_index_or}
 use Rattle.fabric_defs.specs.Geometries.{GeometryValue, pin_count, table_bits, cell_number}
 use Rattle.fabric_defs.specs.Configurations.{ConfigValue, IsConfig, first_word, pin_word, table, track_word, output_word}
 use Rattle.cell_defs.specs.declared.source.Source.{Source}

@@ -1,5 +1,5 @@
 -- The answer to mapped cells and a fabric: a configuration, or the first resource that is wanting.
-use Rattle.std.specs.Prelude.{ℕ, Option, Some, None, Result, Ok, Err}
+use Rattle.std.specs.Prelude.{Some, None, Result, Ok, Err}
 use Rattle.fabric_defs.specs.Geometries.{GeometryValue}
 use Rattle.fabric_defs.specs.Configurations.{ConfigValue}
 use Rattle.map_defs.specs.Mapped.{MappedValue}

@@ -1,0 +1,4 @@
+pub mod BitLemmas
+pub mod SourceLemmas
+pub mod FunctionLemmas
+pub mod PassingLemmas

@@ -1,7 +1,7 @@
 -- The bytes of a bundle: `PCHB`, the version, the five numbers of the geometry, the configuration and the
 -- trace with their lengths before them, and the digest of all before. Numbers have the more significant byte
 -- first.
-use Rattle.std.specs.Prelude.{◌≡◌, ℕ, ◌==◌, ◌<◌, ◌≤◌, ◌^◌, Bool, not, List, [], ◌∷◌, ◌++◌, length, if◌then◌else◌}
+use Rattle.std.specs.Prelude.{◌≡◌, ℕ, ◌==◌, ◌<◌, ◌≤◌, ◌^◌, List, [], ◌∷◌, ◌++◌, length, if◌then◌else◌}
 use Rattle.byteorder.specs.Endian.{big_bytes}
 use Rattle.sha2.specs.Sha256.{sha256}
 use Rattle.fabric_defs.specs.declared.kind.CellKind.{CellKind}
@@ -26,10 +26,6 @@ IsVersion v = (1 ≤ v) × (v ≤ 3)
 -- version 3 is of fabrics with cells of six inputs, the others are of fabrics with cells of four inputs
 abbrev pub kind_of_version : ℕ → CellKind
 kind_of_version v = if v == 3 then SixInputs else FourInputs
-
--- the traces of version 1 state the literals of every clause
-abbrev pub may_be_compact : ℕ → Bool
-may_be_compact v = not (v == 1)
 
 -- the five numbers of a geometry; its kind follows from the version
 abbrev pub geometry_bytes : GeometryValue → List ℕ

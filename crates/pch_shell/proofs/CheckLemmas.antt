@@ -41,11 +41,15 @@ pub bad_trace_due : {N : Type 0} (r : Result Outcome N) (cn tn cnf trace : List 
     → IfOk r (CheckDue cn tn cnf trace)
 bad_trace_due (Ok o) cn tn cnf trace f error reads (inl none) is real = absurd (real none)
 bad_trace_due (Ok o) cn tn cnf trace f error reads (inr fails) is real =
-    inr (inr (inr (error, record {
-      formula = f;
-      reads_cnf = text_of_cnf_in cnf f reads;
-      faulty = trace_in-fault trace 2 error fails;
-    }, is)))
+    inr (inr (inr (
+      error,
+      record {
+        formula = f;
+        reads_cnf = text_of_cnf_in cnf f reads;
+        faulty = trace_in-fault trace 2 error fails;
+      },
+      is,
+    )))
 bad_trace_due (Err n) cn tn cnf trace f error reads fails is real = is
 
 -- the trace refutes the clauses
@@ -56,14 +60,17 @@ pub verified_due : (cn tn cnf trace : List ℕ) (f set : Formula) (t : List Entr
     → CheckDue cn tn cnf trace o
 verified_due cn tn cnf trace f set t v o same yes_is reads steps shows sound is =
     let shown : VerdictOf set.clauses t MAX_COMPUTED Refutes = subst (VerdictOf set.clauses t MAX_COMPUTED) yes_is shows in
-    inl (record {
-      formula = f;
-      steps = t;
-      reads_cnf = text_of_cnf_in cnf f reads;
-      reads_trace = trace_in-text trace 2 t steps;
-      refutes = subst (λ (g : Formula). VerdictOf g.clauses t MAX_COMPUTED Refutes) same shown;
-      unsat = subst (λ (g : Formula). Unsat g.variables g.clauses) same (sound yes_is);
-    }, is)
+    inl (
+      record {
+        formula = f;
+        steps = t;
+        reads_cnf = text_of_cnf_in cnf f reads;
+        reads_trace = trace_in-text trace 2 t steps;
+        refutes = subst (λ (g : Formula). VerdictOf g.clauses t MAX_COMPUTED Refutes) same shown;
+        unsat = subst (λ (g : Formula). Unsat g.variables g.clauses) same (sound yes_is);
+      },
+      is,
+    )
 
 -- the trace shows something else
 pub refused_due : (cn tn cnf trace : List ℕ) (f set : Formula) (t : List Entry) (v : Verdict) (o : Outcome)
@@ -72,11 +79,15 @@ pub refused_due : (cn tn cnf trace : List ℕ) (f set : Formula) (t : List Entry
     → o ≡ refused (verdict_line v)
     → CheckDue cn tn cnf trace o
 refused_due cn tn cnf trace f set t v o same other reads steps shows is =
-    inr (inl (v, record {
-      formula = f;
-      steps = t;
-      reads_cnf = text_of_cnf_in cnf f reads;
-      reads_trace = trace_in-text trace 2 t steps;
-      shows = subst (λ (g : Formula). VerdictOf g.clauses t MAX_COMPUTED v) same shows;
-      other = other;
-    }, is))
+    inr (inl (
+      v,
+      record {
+        formula = f;
+        steps = t;
+        reads_cnf = text_of_cnf_in cnf f reads;
+        reads_trace = trace_in-text trace 2 t steps;
+        shows = subst (λ (g : Formula). VerdictOf g.clauses t MAX_COMPUTED v) same shows;
+        other = other;
+      },
+      is,
+    ))

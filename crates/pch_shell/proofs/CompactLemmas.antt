@@ -26,14 +26,18 @@ pub compacted_due : {N : Type 0} (r : Result Outcome N) (name bytes : List ℕ) 
     → IfOk r (CompactDue name bytes)
 compacted_due (Ok o) name bytes bundle steps text one reads is =
     let trace = trace_in-text bundle.trace 1 steps reads in
-    inl (is.0, record {
-      bundle = bundle;
-      steps = steps;
-      reads = record { text = text; version = one; trace = trace };
-      spells = is.1;
-      accepted = λ room g net config accepted.
-        rw is.1 (accepted-compacted bytes bundle steps text one trace room g net config accepted);
-    }, is.2)
+    inl (
+      is.0,
+      record {
+        bundle = bundle;
+        steps = steps;
+        reads = record { text = text; version = one; trace = trace };
+        spells = is.1;
+        accepted = λ room g net config accepted.
+            rw is.1 (accepted-compacted bytes bundle steps text one trace room g net config accepted);
+      },
+      is.2,
+    )
 compacted_due (Err n) name bytes bundle steps text one reads is = is
 
 -- its trace has a fault
@@ -45,12 +49,16 @@ pub bad_trace_due : {N : Type 0} (r : Result Outcome N) (name bytes : List ℕ) 
     → IfOk r (CompactDue name bytes)
 bad_trace_due (Ok o) name bytes bundle error text one (inl none) is real = absurd (real none)
 bad_trace_due (Ok o) name bytes bundle error text one (inr fails) is real =
-    inr (inr (inr (error, record {
-      bundle = bundle;
-      text = text;
-      version = one;
-      faulty = trace_in-fault bundle.trace 1 error fails;
-    }, is)))
+    inr (inr (inr (
+      error,
+      record {
+        bundle = bundle;
+        text = text;
+        version = one;
+        faulty = trace_in-fault bundle.trace 1 error fails;
+      },
+      is,
+    )))
 bad_trace_due (Err n) name bytes bundle error text one fails is real = is
 
 -- the compacted trace is short enough for a bundle
@@ -67,7 +75,7 @@ pub compacted_is : (items now printed : List ℕ) (short steps : List Entry) (v 
 compacted_is items now printed short steps v o is a b c told = (
   items,
   is ∙ ap (λ (t : List ℕ). bundle_bytes (record { version = 2; geometry = v.geometry; config = v.config; trace = t }))
-    (a ∙ b ∙ ap trace_text c),
+      (a ∙ b ∙ ap trace_text c),
   told,
 )
 

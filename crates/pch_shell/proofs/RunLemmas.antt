@@ -13,7 +13,7 @@ use Rattle.pch_shell.specs.Verify.{IsAccepted, VerifyDue}
 use Rattle.pch_shell.specs.Cnf.{CnfDue}
 use Rattle.pch_shell.specs.Compact.{CompactDue}
 use Rattle.pch_shell.specs.Due.{OfOne, OfTwo, FilesDue, Holds}
-use Rattle.pch_shell.specs.Runs.{StoreState, SinkState, OnlyOut, AreSaved, NotSaved, AfterSave, Works, StopsAtLoad, Tells, WordsTell, out_named, Put, WantsMemory, Ends, HoldsOut, Shows, StoreCause, IsDecided, Completes, Runs}
+use Rattle.pch_shell.specs.Runs.{StoreState, SinkState, OnlyOut, AreSaved, NotSaved, AfterSave, Works, StopsAtLoad, Tells, WordsTell, out_named, Put, Worked, Leaves, WantsMemory, Ends, HoldsOut, Shows, StoreCause, IsDecided, Completes, Runs}
 use Rattle.pch_shell.specs.declared.status.Status.{Status}
 use Rattle.pch_shell.specs.declared.status.Status.TheVariants.{Done, NotAccepted, Words, Store, Sink, Memory, BadInput}
 
@@ -114,7 +114,7 @@ saved_by : (o : Outcome) (short text : List ℕ) (out : List ℕ) (old new : Sto
     → HoldsOut (Some out) new.files short
 saved_by o short text out old new is saved =
     let named : AreSaved (Some out) (Some short) old new =
-      subst (λ (x : Option (List ℕ)). AreSaved (Some out) x old new) (ap (λ (x : Outcome). x.saved) is) saved in
+    subst (λ (x : Option (List ℕ)). AreSaved (Some out) x old new) (ap (λ (x : Outcome). x.saved) is) saved in
     holds_saved old.files new.files out short named.0
 
 compact_shows : (name bytes out : List ℕ) (o : Outcome) (old new : StoreState) → o.status ≡ Done → CompactDue name bytes o
@@ -131,12 +131,15 @@ done_shows (check cn tn) files o old new done h saved =
     ([], tt, map_two files _ _ h (λ a b due. check_shows cn tn a b o done due))
 done_shows (verify sn bn g workers) files o old new done h saved =
     ([], tt, map_two files _ _ h (λ a b due. verify_shows sn g a b o done due))
-done_shows (cnf sn bn) files o old new done h saved =
-    ([], tt, map_two files _ _ h (λ a b due. elim due [
-      | inl m ↦ (m.0, m.1)
-      | inr (inl e) ↦ absurd (not_done o BadInput (status_of o _ e.2) (λ q. cc) done)
-      | inr (inr e) ↦ absurd (not_done o BadInput (status_of o _ e.2) (λ q. cc) done)
-    ]))
+done_shows (cnf sn bn) files o old new done h saved = (
+  [],
+  tt,
+  map_two files _ _ h (λ a b due. elim due [
+    | inl m ↦ (m.0, m.1)
+    | inr (inl e) ↦ absurd (not_done o BadInput (status_of o _ e.2) (λ q. cc) done)
+    | inr (inr e) ↦ absurd (not_done o BadInput (status_of o _ e.2) (λ q. cc) done)
+  ]),
+)
 done_shows (compact bn out) [] o old new done h saved = absurd h
 done_shows (compact bn out) (bytes ∷ []) o old new done h saved = compact_shows bn bytes out o old new done h saved
 done_shows (compact bn out) (bytes ∷ b ∷ rest) o old new done h saved = absurd h
@@ -174,7 +177,7 @@ tells_only None old new told h = files_of_state old new h.1
 tells_only (Some form) old new told (inl w) =
     elim w.saved [
       | inl s ↦ saved_only (out_of form) w.outcome.saved old new s.0
-      | inr s ↦ not_saved_only (out_of form) old new s.0 s.1
+      | inr s ↦ not_saved_only (out_of form) old new s.1 s.2
     ]
 tells_only (Some form) old new told (inr s) = only_same (out_of form) old.files new.files s.same_files
 
@@ -187,7 +190,7 @@ told_not_sink (Some form) old new told (inl w) is =
     elim w.saved [
       | inl s ↦ work_not w.outcome Sink (due_work form w.files w.outcome w.due) (λ e. cc) (λ e. cc) (λ e. cc)
           (sym (status_of told w.outcome s.1) ∙ is)
-      | inr s ↦ absurd (let e : Store ≡ Sink = sym (status_of told _ s.2) ∙ is in cc)
+      | inr s ↦ absurd (let e : Store ≡ Sink = sym (status_of told _ s.3) ∙ is in cc)
     ]
 told_not_sink (Some form) old new told (inr s) is = let e : Store ≡ Sink = sym (status_of told _ s.is_told) ∙ is in cc
 
@@ -230,7 +233,7 @@ fails_by_count t before now (f ∷ fs) (b ∷ bs) name fail h (inr later) real =
 pub ends_of : {N W : Type 0} (r : Result Outcome N) (form : Option Form) (old new : StoreState)
     (held : W → Option (List ℕ)) (faults : W → ℕ) (before after : W) (status : Status)
     → IfOk r (WordsTell form old new)
-    → OnErr r (OnlyOut (out_named form) old.files new.files)
+    → OnErr r (Leaves form old.files new.files)
     → IfOk r (λ told. Put told (record { held = held before; faults = faults before }) (record { held = held after; faults = faults after }) status)
     → OnErr r ((status ≡ Memory) × (after ≡ before))
     → Ends form old new (record { held = held before; faults = faults before }) (record { held = held after; faults = faults after }) status
@@ -257,7 +260,7 @@ told_shows (Some form) old new told (inl w) done =
       | inl s ↦
           let shown = done_shows form w.files w.outcome old new (sym (status_of told w.outcome s.1) ∙ done) w.due s.0 in
           (w.files, w.loaded, shown.0, shown.1, shown.2)
-      | inr s ↦ absurd (let e : Store ≡ Done = sym (status_of told _ s.2) ∙ done in cc)
+      | inr s ↦ absurd (let e : Store ≡ Done = sym (status_of told _ s.3) ∙ done in cc)
     ]
 told_shows (Some form) old new told (inr s) done = absurd (let e : Store ≡ Done = sym (status_of told _ s.is_told) ∙ done in cc)
 
@@ -268,7 +271,7 @@ told_words (Some form) old new told (inl w) is =
     elim w.saved [
       | inl s ↦ absurd (work_not w.outcome Words (due_work form w.files w.outcome w.due) (λ e. cc) (λ e. cc) (λ e. cc)
           (sym (status_of told w.outcome s.1) ∙ is))
-      | inr s ↦ absurd (let e : Store ≡ Words = sym (status_of told _ s.2) ∙ is in cc)
+      | inr s ↦ absurd (let e : Store ≡ Words = sym (status_of told _ s.3) ∙ is in cc)
     ]
 told_words (Some form) old new told (inr s) is = absurd (let e : Store ≡ Words = sym (status_of told _ s.is_told) ∙ is in cc)
 
@@ -279,9 +282,9 @@ told_store (Some form) old new told (inl w) is =
     elim w.saved [
       | inl s ↦ absurd (work_not w.outcome Store (due_work form w.files w.outcome w.due) (λ e. cc) (λ e. cc) (λ e. cc)
           (sym (status_of told w.outcome s.1) ∙ is))
-      | inr s ↦ inr (s.0, s.1)
+      | inr s ↦ inr (s.1, s.2)
     ]
-told_store (Some form) old new told (inr s) is = inl (s.name, s.fail, s.not_loaded)
+told_store (Some form) old new told (inr s) is = inl (s.name, s.fail, s.real, s.not_loaded)
 
 sink_rose : (form : Option Form) (old new : StoreState) (before after : SinkState) (status : Status) → status ≡ Sink
     → Ends form old new before after status → Rose before.faults after.faults
@@ -298,17 +301,19 @@ decided : (form : Form) (old new : StoreState) (before after : SinkState) (statu
 decided form old new before after status told t files is_told loaded (inl w) is =
     let L : Option Files → List (List ℕ) → Type 0 = λ f bs. AreLoaded f (files_of form) bs in
     let same : w.files ≡ files =
-      loaded_one t (files_of form) w.files files (subst (λ f. L f w.files) is_told w.loaded) (subst (λ f. L f files) is_told loaded) in
+    loaded_one t (files_of form) w.files files (subst (λ f. L f w.files) is_told w.loaded) (subst (λ f. L f files) is_told loaded) in
     elim w.saved [
       | inl s ↦ inl (w.outcome, subst (λ bs. FilesDue form bs w.outcome) same w.due, is ∙ status_of told w.outcome s.1)
-      | inr s ↦ inr (inl (is ∙ status_of told _ s.2, s.1.counted))
+      | inr s ↦ inr (inl (is ∙ status_of told _ s.3, s.2.counted))
     ]
 decided form old new before after status told t files is_told loaded (inr s) is =
     let not : IsNotLoaded (Some t) old.faults new.faults (files_of form) s.name s.fail =
-      subst (λ f. IsNotLoaded f old.faults new.faults (files_of form) s.name s.fail) is_told s.not_loaded in
-    inr (inl (is ∙ status_of told _ s.is_told,
+    subst (λ f. IsNotLoaded f old.faults new.faults (files_of form) s.name s.fail) is_told s.not_loaded in
+    inr (inl (
+      is ∙ status_of told _ s.is_told,
       fails_by_count t old.faults new.faults (files_of form) files s.name s.fail
-      (subst (λ f. AreLoaded f (files_of form) files) is_told loaded) not s.real))
+          (subst (λ f. AreLoaded f (files_of form) files) is_told loaded) not s.real,
+    ))
 
 completes : (form : Option Form) (old new : StoreState) (before after : SinkState) (status : Status)
     → Ends form old new before after status → Completes form old new before after status
@@ -321,9 +326,14 @@ completes (Some form) old new before after status (inr (told, tells, inr (inl pu
 completes (Some form) old new before after status (inr (told, tells, inr (inr put))) =
     λ t files is loaded. inr (inr (inr put.0))
 
+leaves_only : (form : Option Form) (old new : Option Files) → Leaves form old new → OnlyOut (out_named form) old new
+leaves_only None old new e = e
+leaves_only (Some form) old new (inl e) = only_same (out_of form) old new e
+leaves_only (Some form) old new (inr w) = w.only
+
 ends_only : (form : Option Form) (old new : StoreState) (before after : SinkState) (status : Status)
     → Ends form old new before after status → OnlyOut (out_named form) old.files new.files
-ends_only form old new before after status (inl w) = w.files
+ends_only form old new before after status (inl w) = leaves_only form old.files new.files w.files
 ends_only form old new before after status (inr (told, tells, put)) = tells_only form old new told tells
 
 -- all that a run comes to follows from how it ends
@@ -333,13 +343,13 @@ runs_of words old new before after status ends = record {
   ends = ends;
   shows = λ is. let at = told_of (form_of words) old new before after status (λ e. let k : Done ≡ Sink = sym is ∙ e in cc)
       (λ e. let k : Done ≡ Memory = sym is ∙ e in cc) ends in
-    told_shows (form_of words) old new at.0 at.1 (at.2 ∙ is);
+      told_shows (form_of words) old new at.0 at.1 (at.2 ∙ is);
   words_cause = λ is. let at = told_of (form_of words) old new before after status (λ e. let k : Words ≡ Sink = sym is ∙ e in cc)
       (λ e. let k : Words ≡ Memory = sym is ∙ e in cc) ends in
-    told_words (form_of words) old new at.0 at.1 (at.2 ∙ is);
+      told_words (form_of words) old new at.0 at.1 (at.2 ∙ is);
   store_cause = λ is. let at = told_of (form_of words) old new before after status (λ e. let k : Store ≡ Sink = sym is ∙ e in cc)
       (λ e. let k : Store ≡ Memory = sym is ∙ e in cc) ends in
-    told_store (form_of words) old new at.0 at.1 (at.2 ∙ is);
+      told_store (form_of words) old new at.0 at.1 (at.2 ∙ is);
   sink_cause = λ is. sink_rose (form_of words) old new before after status is ends;
   complete = completes (form_of words) old new before after status ends;
   files = ends_only (form_of words) old new before after status ends;

@@ -44,7 +44,11 @@ pub record NotSaved (out : Option (List ℕ)) (old new : StoreState) (name : Lis
 abbrev pub AfterSave : Option (List ℕ) → Outcome → (old new : StoreState) → Outcome → Type 0
 AfterSave out outcome old new told =
     (AreSaved out outcome.saved old new × (told ≡ outcome))
-    ⊎ ((name : List ℕ) × NotSaved out old new name × (told ≡ not_stored name Failed))
+    ⊎ ((outcome.saved ≢ None) × (name : List ℕ) × NotSaved out old new name × (told ≡ not_stored name Failed))
+
+-- what a save leaves that wants memory: nothing is changed, or there was something to save, and its file is spoiled
+abbrev pub MaySpoil : (out saved : Option (List ℕ)) → (old new : Option Files) → Type 0
+MaySpoil out saved old new = (new ≡ old) ⊎ ((saved ≢ None) × OnlyOut out old new)
 
 -- ---- what is told
 
@@ -89,11 +93,25 @@ Put told old new status =
     ⊎ (((status ≡ Sink) × Rose old.faults new.faults × AppendsPrefix old.held new.held told.text)
     ⊎ ((status ≡ Memory) × AppendsPrefix old.held new.held told.text))
 
+-- all work of the command was done, and there was something to save; its file may be spoiled
+pub record Worked (form : Form) (old new : Option Files) : Type 0 where
+  pub files : List (List ℕ)
+  pub loaded : AreLoaded old (files_of form) files
+  pub outcome : Outcome
+  pub due : FilesDue form files outcome
+  pub saves : outcome.saved ≢ None
+  pub only : OnlyOut (out_of form) old new
+
+-- how the files may differ behind a run that wants memory: not at all, or all the work was done
+abbrev pub Leaves : Option Form → (old new : Option Files) → Type 0
+Leaves None old new = new ≡ old
+Leaves (Some form) old new = (new ≡ old) ⊎ Worked form old new
+
 -- memory was wanting before a text was due, and nothing was written
 pub record WantsMemory (form : Option Form) (old new : StoreState) (before after : SinkState) (status : Status) : Type 0 where
   pub memory : status ≡ Memory
   pub silent : after ≡ before
-  pub files : OnlyOut (out_named form) old.files new.files
+  pub files : Leaves form old.files new.files
 
 -- A run ends with a status: memory was wanting before a text was due; or what is told was put.
 abbrev pub Ends : Option Form → (old new : StoreState) → (before after : SinkState) → Status → Type 0
@@ -121,7 +139,8 @@ Shows (Some form) old new =
 abbrev pub StoreCause : Option Form → StoreState → StoreState → Type 0
 StoreCause None old new = ⊥
 StoreCause (Some form) old new =
-    ((name : List ℕ) × (fail : LoadFail) × IsNotLoaded old.files old.faults new.faults (files_of form) name fail)
+    ((name : List ℕ) × (fail : LoadFail) × (fail ≢ NoMemory)
+    × IsNotLoaded old.files old.faults new.faults (files_of form) name fail)
     ⊎ ((name : List ℕ) × NotSaved (out_of form) old new name)
 
 -- the status says what a command comes to, if it isn't one of a fault of the outside or of want of memory

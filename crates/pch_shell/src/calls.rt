@@ -1,13 +1,13 @@
 //! The public calls that the program makes.
 
-ghost use Rattle.std.specs.Prelude.{◌≡◌, None, length, IfOk, OnErr};
+ghost use Rattle.std.specs.Prelude.{◌≡◌, None, Some, length, IfOk, OnErr};
 ghost use Rattle.pch_lines.specs.Words.{words_in, form_of};
-ghost use Rattle.pch_lines.specs.Files.{files_of, out_of};
+ghost use Rattle.pch_lines.specs.Files.{files_of};
 ghost use Rattle.pch_lines.specs.Commands.{form_seen, HasWorkers};
 ghost use Rattle.pch_shell.specs.Due.{FilesDue};
-ghost use Rattle.pch_shell.specs.Runs.{OnlyOut, out_named, Tells, WordsTell, Runs};
+ghost use Rattle.pch_shell.specs.Runs.{Leaves, Tells, WordsTell, Runs};
 
-use crate::commands::{check, cnf, compact, verify};
+use crate::commands::{check, cnf, compact, verifying};
 use crate::ending::Ending;
 use crate::finishing::{finish, save};
 use crate::loading::{Loaded, load_all};
@@ -42,7 +42,7 @@ fn work<R: Threads + Sync>(
             ..
         } => {
             let (spec_bytes, bundle_bytes) = loaded.two();
-            verify::run(rt, alloc, spec, geometry, workers, spec_bytes, bundle_bytes)
+            verifying::run(rt, alloc, spec, geometry, workers, spec_bytes, bundle_bytes)
         }
         Command::Cnf { spec, bundle } => {
             let (spec_bytes, bundle_bytes) = loaded.two();
@@ -64,7 +64,7 @@ fn run<R: Threads + Sync, S: Store>(
         (record { files = S.files store.old; faults = S.faults store.old })
         (record { files = S.files store.new; faults = S.faults store.new })) }
     ensures files { OnErr result
-        (OnlyOut (out_of (form_seen command.now)) (S.files store.old) (S.files store.new)) }
+        (Leaves (Some (form_seen command.now)) (S.files store.old) (S.files store.new)) }
 {
     let files = command.files(alloc)?;
     let loaded = match load_all(alloc, store, &files) {
@@ -86,7 +86,7 @@ fn tell<R: Threads + Sync, S: Store>(
         (record { files = S.files store.old; faults = S.faults store.old })
         (record { files = S.files store.new; faults = S.faults store.new })) }
     ensures files { OnErr result
-        (OnlyOut (out_named (form_of (words_in words.now))) (S.files store.old) (S.files store.new)) }
+        (Leaves (form_of (words_in words.now)) (S.files store.old) (S.files store.new)) }
     ensures untouched { form_of (words_in words.now) ≡ None → store.new ≡ store.old }
 {
     match command_of(words) {

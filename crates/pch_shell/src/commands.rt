@@ -3,4 +3,4 @@
 pub mod check;
 pub mod cnf;
 pub mod compact;
-pub mod verify;
+pub mod verifying;

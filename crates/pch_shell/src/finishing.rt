@@ -2,7 +2,7 @@
 
 ghost use Rattle.std.specs.Prelude.{◌≡◌, IfOk, OnErr};
 ghost use Rattle.std.specs.Option.{option_map};
-ghost use Rattle.pch_shell.specs.Runs.{OnlyOut, AfterSave, Put};
+ghost use Rattle.pch_shell.specs.Runs.{MaySpoil, AfterSave, Put};
 
 use crate::ending::Ending;
 use crate::status::Status;
@@ -21,7 +21,8 @@ pub fn save<S: Store>(
         (record { files = S.files store.old; faults = S.faults store.old })
         (record { files = S.files store.new; faults = S.faults store.new })) }
     ensures files { OnErr result
-        (OnlyOut (option_map (λ word. word.now) out.entry) (S.files store.old) (S.files store.new)) }
+        (MaySpoil (option_map (λ word. word.now) out.entry) ending.saved (S.files store.old)
+        (S.files store.new)) }
 {
     match (out, &ending.saved) {
         (Some(name), Some(bytes)) => match store.save(name, bytes) {

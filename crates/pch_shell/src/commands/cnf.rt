@@ -7,7 +7,7 @@ ghost use Rattle.pch_lines.specs.FaultLines.{miter_error_line};
 ghost use Rattle.pch_shell.specs.Outcomes.{bad_input};
 ghost use Rattle.pch_shell.specs.Cnf.{CnfDue};
 
-use crate::commands::verify::bad_spec;
+use crate::commands::verifying::bad_spec;
 use crate::ending::Ending;
 use netlist::read_specification;
 use pch_base::NoMemory;

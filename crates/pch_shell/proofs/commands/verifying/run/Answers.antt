@@ -1,6 +1,6 @@
 use Rattle.std.proofs.Common.{rules}
 use Rattle.pch_shell.proofs.VerifyLemmas.{refused_due}
-use Rattle.pch_shell.proofs.commands.verify.run.Goals as goal
+use Rattle.pch_shell.proofs.commands.verifying.run.Goals as goal
 
 pub returns : goal.returns
 returns g c =

@@ -31,12 +31,13 @@ loop-result-init g c =
     let pieces = c.args.pieces in
     let ends = c.into_par_iter.ensures in
     let h = c.in_ok-found.ensures {u = tt} in
-    let chain = rw (c.map.ensures.base, c.map.ensures.f, c.with_min_len.ensures.base) at h.1 in
+    let numbers = rw (c.map.ensures.base, c.with_min_len.ensures.base) at h.1.1 in
+    let each = rw c.map.ensures.f at h.1.2 in
     let whole : pieces - 0 ≡ pieces = omega arith in
-    let places = chain.1 ∙ (λ i. nat_range (ends.0 i) (ends.1 i)) ∙ ap (range_with_len 0) whole in
+    let places = numbers ∙ (λ i. nat_range (ends.0 i) (ends.1 i)) ∙ ap (range_with_len 0) whole in
     let items = c.as_slice-result-items.ensures.value ∙ h.2 in
     let R : ℕ → Result (Option Verdict) NoMemory → Type 0 = λ p r. IsPiece f t w n pieces p r in
-    let zipped = subst (λ xs. AllZip R xs h.0) places chain.2 in
+    let zipped = subst (λ xs. AllZip R xs h.0) places each in
     record {
       right = λ k low high. absurd (let none = first_begin n pieces in omega arith);
       rest = subst (ArePieces f t w n pieces 0) (sym items) (pieces_zip f t w n pieces R (λ p r x. x) 0 pieces h.0 zipped);

@@ -1,5 +1,6 @@
 ghost use Rattle.std.specs.Prelude.{◌≡◌, ◌≢◌, ℕ, ◌+◌, ◌*◌, ◌<◌, ◌≤◌, ◌↔◌, List, [], length, min, vec_capacity, Some, None, Ok, IfOk, IfSome, IfNone, IsTrue};
 ghost use Rattle.clause_defs.specs.Literals.{Literal};
+ghost use Rattle.sat_values.specs.TraceArrays.{greatest_variable};
 ghost use Rattle.clause_defs.specs.Clauses.{Lits, Has, SameSet, WithinVariables};
 ghost use Rattle.clause_defs.specs.Resolution.{Resolves};
 ghost use Rattle.clause_defs.specs.Traces.{IsTrace, IsCompactAt, stated_at, index_at, lits_at, antecedents_at};
@@ -47,6 +48,9 @@ impl Room {
     pub fn open(alloc: Global, t: &Trace, limit: u32) -> Result<Room, NoMemory>
         ensures room { IfOk result (λ r. IsRoomFor t.now r) }
         ensures limit { IfOk result (λ r. r.limit ≡ limit) }
+        ensures marks { IfOk result (λ r. r.marks.variables ≡ greatest_variable t.now) }
+        ensures computed { IfOk result (λ r. r.computed.room
+            ≡ min limit (2 * greatest_variable t.now * signs_before t.now (length t.now))) }
     {
         let variables = t.greatest_variable();
         let signs = signs(t);

@@ -103,6 +103,9 @@ fn check_piece(
     requires right { SignsAreRight t.now room.now.limit to }
     ensures { IfOk result (IsFirstFault f.now.clauses t.now room.now.limit from to) }
 {
+    if from == to {
+        return Ok(None);
+    }
     let mut marks = room.more_marks(alloc)?;
     Ok(room.first_fault(f, t, from, to, &mut marks))
 }

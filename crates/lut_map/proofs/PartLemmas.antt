@@ -1,17 +1,14 @@
 -- The cells of nodes, one node after another.
-use Rattle.std.proofs.Common.{◌≡◌, ℕ, zero, suc, ◌+◌, ◌-◌, ◌<◌, ◌≤◌, ⊎_elim, Bool, true, false, cond, List, [], ◌∷◌, ◌++◌, length, map, take, drop, get_or, All, refl, ap, sym, subst, ◌∙◌, arith, length-append}
-use Rattle.std.proofs.lemmas.List.{get_or_read, append_assoc, take_at, drop_at, drop-append-le, take-append-le, length-drop, length-map}
-use Rattle.std.proofs.lemmas.Bool.{cases_lt}
-use Rattle.fabric_defs.specs.Numbered.{list_of, joined}
-use Rattle.fabric_laws.proofs.NumberedLemmas.{length-list_of, get_or-list_of, list_of-more, joined-more}
-use Rattle.net_defs.specs.Networks.{Network, node_at, signals}
-use Rattle.cell_defs.specs.declared.source.Source.{Source}
-use Rattle.cell_defs.specs.declared.source.Source.TheVariants.{Pad, Cell}
+use Rattle.std.proofs.Common.{◌≡◌, ℕ, zero, suc, ◌+◌, ◌<◌, Bool, false, cond, List, [], ◌∷◌, ◌++◌, length, get_or, refl, ap, sym, ◌∙◌, arith, length-append}
+use Rattle.std.proofs.lemmas.List.{get_or_read}
+use Rattle.fabric_defs.specs.Numbered.{joined}
+use Rattle.fabric_laws.proofs.NumberedLemmas.{list_of-more, joined-more}
+use Rattle.net_defs.specs.Networks.{Network, node_at}
 use Rattle.cell_defs.specs.Cells.{CellValue}
 use Rattle.map_defs.specs.NodeCells.{node_cells}
-use Rattle.map_defs.specs.Reference.{own_cells, first_cell, signal_source}
+use Rattle.map_defs.specs.Reference.{own_cells, first_cell}
 use Rattle.lut_map.specs.Marks.{is_marked}
-use Rattle.lut_map.specs.Parts.{AreParts, source_by}
+use Rattle.lut_map.specs.Parts.{AreParts}
 
 -- the cells of the first nodes are as many as their count
 pub length-own_before : (net : Network) (needed : ℕ → Bool) (n : ℕ) → length (joined n (own_cells net needed)) ≡ first_cell net needed n

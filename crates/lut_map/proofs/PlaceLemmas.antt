@@ -1,24 +1,23 @@
 -- The cells of nodes, put among those of all nodes.
-use Rattle.std.proofs.Common.{◌≡◌, ℕ, zero, suc, ◌+◌, ◌-◌, ◌<◌, ◌≤◌, ⊎_elim, Bool, true, false, ltb, cond, List, [], ◌∷◌, ◌++◌, length, map, take, drop, get_or, All, refl, ap, sym, subst, ◌∙◌, arith, length-append}
-use Rattle.std.proofs.lemmas.List.{get_or_read, get_or_append_left, get_or-append-add, take_at, take_all, drop_at, drop_all, drop-append-le, take-append-le, append-nil, length-drop, length-map}
+use Rattle.std.proofs.Common.{◌≡◌, ℕ, zero, suc, ◌+◌, ◌-◌, ◌<◌, ◌≤◌, ⊎_elim, Bool, true, ltb, List, [], ◌∷◌, ◌++◌, length, map, take, drop, get_or, All, refl, ap, sym, subst, ◌∙◌, arith, length-append}
+use Rattle.std.proofs.lemmas.List.{map_more, append_assoc, get_or-drop, get_or_append_left, get_or-append-add, take_all, drop_at, drop-append-le, take-append-le, length-drop, length-map}
 use Rattle.std.proofs.lemmas.Bool.{cases_lt, cases_Bool, lt-ltb, le-ltb, cond-true, cond-false}
-use Rattle.fabric_defs.specs.Numbered.{list_of, joined}
-use Rattle.fabric_defs.specs.declared.limits.TheConstants.{MAX_PINS}
+use Rattle.fabric_defs.specs.Numbered.{joined}
 use Rattle.fabric_laws.proofs.NumberedLemmas.{length-list_of, get_or-list_of}
 use Rattle.net_defs.specs.Networks.{Output, Network, no_node, node_at, signals}
 use Rattle.net_defs.specs.Evaluation.{output_signals}
-use Rattle.map_defs.specs.Mapped.{MappedValue, AreMapped, AreFew}
+use Rattle.map_defs.specs.Mapped.{MappedValue, AreMapped}
 use Rattle.map_defs.specs.Needed.{IsNeeded}
 use Rattle.map_laws.proofs.SettledLemmas.{mapping-mapped}
 use Rattle.lut_map.specs.Kept.{luts_of, AreLuts}
 use Rattle.net_defs.specs.Nets.{IsNet}
 use Rattle.cell_defs.specs.declared.source.Source.{Source}
 use Rattle.cell_defs.specs.declared.source.Source.TheVariants.{Pad, Cell}
-use Rattle.cell_defs.specs.Cells.{CellValue, no_cell, IsSourceBelow}
+use Rattle.cell_defs.specs.Cells.{CellValue, no_cell}
 use Rattle.extract.specs.CellLists.{listed_cell}
 use Rattle.map_defs.specs.NodeCells.{node_cells}
 use Rattle.map_defs.specs.Reference.{own_cells, first_cell, signal_source, cell_in, placed_cells, cells_before, mapping}
-use Rattle.map_laws.proofs.LocalLemmas.{IsSourceBelow-more, IsLocal}
+use Rattle.map_laws.proofs.LocalLemmas.{IsSourceBelow-more}
 use Rattle.map_laws.proofs.MappingLemmas.{outputs-within, own_cells-local, first_cell-le, signal_source-input, signal_source-node}
 use Rattle.map_laws.proofs.UniqueLemmas.{cells-agree, fan_in-within}
 use Rattle.lut_map.specs.declared.made.TheConstants.{MAX_CELLS}
@@ -127,9 +126,9 @@ own_placeable net needed v first e k cells ends is_net h lt at end few le below 
     let i : ℕ = k - first in
     let within : i < length (own v) = omega arith in
     let member : needed v ≡ true = ⊎_elim (λ yes2. yes2)
-        (λ no2. let P : List CellValue → Type 0 = λ l. i < length l in
-        absurd (let none : i < 0 = subst P (cond-false (needed v) (node_cells (node_at net v)) [] no2) within in omega arith))
-        (cases_Bool (needed v)) in
+    (λ no2. let P : List CellValue → Type 0 = λ l. i < length l in
+    absurd (let none : i < 0 = subst P (cond-false (needed v) (node_cells (node_at net v)) [] no2) within in omega arith))
+    (cases_Bool (needed v)) in
     let local = own_cells-local net needed v is_net lt member i within in
     let read : get_or cells k no_cell ≡ get_or (own v) i no_cell =
     ap (λ l. get_or l k no_cell) h.made
@@ -199,3 +198,35 @@ luts_made net needed l is_net h e few =
         outputs = omega (arith, is_net.outputs_within);
       };
     }
+
+-- one more source
+pub mapped_more : (f : ℕ → Source) (ts : List ℕ) (o s : ℕ) (before after : List Source) (t : Source) → o < length ts → get_or ts o s ≡ s
+    → before ≡ map f (take o ts) → t ≡ f s → after ≡ before ++ t ∷ [] → after ≡ map f (take (o + 1) ts)
+mapped_more f ts o s before after t lt read h is pushed =
+    pushed
+    ∙ ap (λ l. l ++ t ∷ []) h
+    ∙ ap (λ u. map f (take o ts) ++ u ∷ []) (is ∙ ap f (sym read))
+    ∙ sym (map_more f ts o s lt)
+
+-- one more cell of a node among all cells
+pub placed_step : (f : CellValue → CellValue) (own start cells new : List CellValue) (first k : ℕ) (pins : List Source) (table : ℕ) → first ≤ k → k < length own
+    → pins ≡ (listed_cell own k).pins → table ≡ (listed_cell own k).table
+    → cells ≡ start ++ map f (take (k - first) (drop first own))
+    → new ≡ cells ++ f (record { pins = pins; table = table }) ∷ []
+    → new ≡ start ++ map f (take (k + 1 - first) (drop first own))
+placed_step f own start cells new first k pins table le lt p t h written =
+    let rest = drop first own in
+    let i : ℕ = k - first in
+    let within : i < length rest = omega (arith, length-drop first own) in
+    let next : k + 1 - first ≡ i + 1 = omega arith in
+    let place : first + i ≡ k = omega arith in
+    let read : get_or rest i no_cell ≡ listed_cell own k = get_or-drop first own i no_cell ∙ ap (λ m. get_or own m no_cell) place in
+    let front = map f (take i rest) in
+    written
+    ∙ ap (λ l. l ++ f (record { pins = pins; table = table }) ∷ []) h
+    ∙ ap (λ l. let c : CellValue = record { pins = l; table = table } in start ++ front ++ f c ∷ []) p
+    ∙ ap (λ m. let c : CellValue = record { pins = (listed_cell own k).pins; table = m } in start ++ front ++ f c ∷ []) t
+    ∙ append_assoc start front (f (listed_cell own k) ∷ [])
+    ∙ ap (λ c. start ++ (front ++ f c ∷ [])) (sym read)
+    ∙ ap (λ l. start ++ l) (sym (map_more f rest i no_cell within))
+    ∙ ap (λ m. start ++ map f (take m rest)) (sym next)

@@ -1,5 +1,5 @@
 -- The cells of nodes, each by itself, and how they are put among those of all nodes.
-use Rattle.std.specs.Prelude.{◌≡◌, ℕ, suc, ◌+◌, ◌-◌, ◌<◌, ◌≤◌, Bool, List, length, slice_index, All, if◌then◌else◌}
+use Rattle.std.specs.Prelude.{◌≡◌, ℕ, suc, ◌-◌, ◌≤◌, Bool, List, length, slice_index, All, if◌then◌else◌}
 use Rattle.std.proofs.Common.{ltb}
 use Rattle.fabric_defs.specs.Numbered.{list_of, joined}
 use Rattle.net_defs.specs.Networks.{Network}

@@ -1,5 +1,5 @@
 -- How much room cells take while they are made.
-use Rattle.std.specs.Prelude.{ℕ, ◌*◌, ◌≤◌, List, length}
+use Rattle.std.specs.Prelude.{◌*◌, ◌≤◌, List, length}
 use Rattle.fabric_defs.specs.declared.limits.TheConstants.{MAX_PINS}
 use Rattle.cell_defs.specs.Cells.{CellValue}
 use Rattle.extract.specs.CellLists.{pins_in}

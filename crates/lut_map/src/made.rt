@@ -9,7 +9,7 @@ ghost use Rattle.lut_map.specs.declared.made.TheConstants.{MAX_CELLS};
 
 use crate::tables::gate_table;
 use extract::{Cell, CellList, Source};
-use map_defs::{Gate, Term};
+use map_defs::{GROUP, Gate, Term};
 use pch_base::NoMemory;
 use std::alloc::Global;
 use std::marker::Model;
@@ -40,12 +40,13 @@ impl Model for Made {
 }
 
 impl Made {
-    /// No cells.
-    pub(crate) fn new(alloc: Global) -> Result<Made, NoMemory>
+    /// No cells, with room for so many.
+    pub(crate) fn with_capacity(alloc: Global, cells: u32) -> Result<Made, NoMemory>
         ensures { IfOk result (λ m. m ≡ []) }
     {
+        let cells = cells as usize;
         Ok(Made {
-            cells: CellList::with_capacity(alloc, 0, 0)?,
+            cells: CellList::with_capacity(alloc, cells, GROUP as usize * cells)?,
             pins: Vec::new(alloc),
         })
     }
@@ -94,7 +95,8 @@ impl Made {
             return Err(NoMemory);
         }
         put_pins(&mut self.pins, terms)?;
-        self.cells.push(&self.pins, gate_table(gate, negated, terms))?;
+        self.cells
+            .push(&self.pins, gate_table(gate, negated, terms))?;
         Ok(())
     }
 

@@ -53,7 +53,7 @@ pub(crate) fn parts_of(alloc: Global, net: &Net) -> Result<Parts, NoMemory>
     let needed = needed_nodes(alloc, net)?;
     let count = net.nodes();
     let mut room = Room::new(alloc);
-    let mut cells = Made::new(alloc)?;
+    let mut cells = Made::with_capacity(alloc, count)?;
     let mut ends = Vec::with_capacity(alloc, count as usize)?;
     for v in 0..count {
         push_needed(&mut cells, net, v, needed[v as usize], &mut room)?;

@@ -44,7 +44,14 @@ fn source_in(inputs: u32, ends: &[u32], fan_ins: &[u32], first: u32, source: Sou
 }
 
 /// Makes `pins` the sources of the node by itself, among all cells.
-fn put_sources(pins: &mut Vec<Source>, inputs: u32, ends: &[u32], fan_ins: &[u32], first: u32, own: &[Source]) -> Result<(), NoMemory>
+fn put_sources(
+    pins: &mut Vec<Source>,
+    inputs: u32,
+    ends: &[u32],
+    fan_ins: &[u32],
+    first: u32,
+    own: &[Source],
+) -> Result<(), NoMemory>
     requires signals { All (λ s. s < inputs + length ends.now) fan_ins.now }
     requires first { first ≤ MAX_CELLS }
     requires below { All (IsSourceBelow (length fan_ins.now) MAX_CELLS) own.now }
@@ -92,6 +99,7 @@ pub(crate) fn push_node_placed(
     pins: &mut Vec<Source>,
 ) -> Result<(), NoMemory>
     requires signals { All (λ s. s < inputs + length ends.now) fan_ins.now }
+    requires few { length own.now ≤ MAX_CELLS }
     requires first { first ≤ end }
     requires end { end ≤ length own.now }
     requires each { (k : ℕ) → first ≤ k → k < end → IsPlaceable (length fan_ins.now) (listed_cell own.now k) }
@@ -101,7 +109,9 @@ pub(crate) fn push_node_placed(
 {
     for k in first..end {
         let cell = own.get(k);
-        push_placed(cells, inputs, ends, fan_ins, first, cell.pins, cell.table, pins)?;
+        push_placed(
+            cells, inputs, ends, fan_ins, first, cell.pins, cell.table, pins,
+        )?;
     }
     Ok(())
 }
@@ -113,7 +123,8 @@ pub(crate) fn placed_cells(alloc: Global, net: &Net, parts: &Parts) -> Result<Ma
 {
     let inputs = net.inputs();
     let ends = &parts.ends;
-    let mut cells = Made::new(alloc)?;
+    let count = parts.cells.len();
+    let mut cells = Made::with_capacity(alloc, count)?;
     let mut pins = Vec::new(alloc);
     let mut first = 0;
     for v in 0..net.nodes() {

@@ -1,7 +1,6 @@
-use Rattle.std.proofs.Common.{◌≡◌, ℕ, ◌+◌, ◌-◌, ◌<◌, ◌↔◌, ◌⊎◌, ◌∙◌, false, List, ap, sym, subst, arith, length, get_or, replicate}
+use Rattle.std.proofs.Common.{◌≡◌, ℕ, ◌+◌, ◌-◌, ◌<◌, ◌↔◌, ◌⊎◌, ◌∙◌, false, List, sym, subst, arith, length, get_or, replicate}
 use Rattle.std.proofs.lemmas.List.{get_or_read, length-replicate}
 use Rattle.clause_defs.specs.Clauses.{Has}
-use Rattle.net_defs.specs.Networks.{node_at}
 use Rattle.net_defs.specs.Evaluation.{output_signals}
 use Rattle.lut_map.specs.Marks.{IsMarked}
 use Rattle.lut_map.proofs.MarkLemmas.{IsSwept, output_signal-read, marked_more, swept_more, swept_all}

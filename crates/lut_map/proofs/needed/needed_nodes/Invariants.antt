@@ -1,4 +1,4 @@
-use Rattle.std.proofs.Common.{◌≡◌, false, length, replicate, take}
+use Rattle.std.proofs.Common.{false, length, replicate, take}
 use Rattle.net_defs.specs.Evaluation.{output_signals}
 use Rattle.lut_map.proofs.MarkLemmas.{AreMarked, IsSwept}
 use Rattle.lut_map.proofs.needed.needed_nodes.Given as goal

@@ -1,6 +1,5 @@
 use Rattle.std.proofs.Common.{ap, arith, length}
 use Rattle.fabric_laws.proofs.NumberedLemmas.{length-list_of}
-use Rattle.cell_defs.specs.declared.source.Source.{Source}
 use Rattle.cell_defs.specs.declared.source.Source.TheVariants.{Pad}
 use Rattle.lut_map.proofs.nodes.push_direct.Goals as goal
 

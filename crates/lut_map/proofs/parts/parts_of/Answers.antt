@@ -1,6 +1,4 @@
-use Rattle.std.proofs.Common.{◌≡◌, ◌<◌, ℕ, subst, arith, length}
-use Rattle.lut_map.specs.Marks.{is_marked}
-use Rattle.lut_map.specs.Parts.{AreParts}
+use Rattle.std.proofs.Common.{◌<◌, arith, length}
 use Rattle.lut_map.proofs.PartLemmas.{parts_more}
 use Rattle.lut_map.proofs.parts.parts_of.Goals as goal
 

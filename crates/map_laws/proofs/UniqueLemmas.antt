@@ -59,7 +59,7 @@ pins-agree f g fan_ins first (s ∷ ss) h =
     ap (λ t. t ∷ map (source_in f fan_ins first) ss) (source_in-agree f g fan_ins first s h)
     ∙ ap (λ l. source_in g fan_ins first s ∷ l) (pins-agree f g fan_ins first ss h)
 
-cells-agree : (f g : ℕ → Source) (fan_ins : List ℕ) (first : ℕ) (cells : List CellValue) → ((j : ℕ) → f (get_or fan_ins j 0) ≡ g (get_or fan_ins j 0))
+pub cells-agree : (f g : ℕ → Source) (fan_ins : List ℕ) (first : ℕ) (cells : List CellValue) → ((j : ℕ) → f (get_or fan_ins j 0) ≡ g (get_or fan_ins j 0))
     → map (cell_in f fan_ins first) cells ≡ map (cell_in g fan_ins first) cells
 cells-agree f g fan_ins first [] h = refl
 cells-agree f g fan_ins first (cell ∷ cells) h =
@@ -67,7 +67,7 @@ cells-agree f g fan_ins first (cell ∷ cells) h =
     ∙ ap (λ l. cell_in g fan_ins first cell ∷ l) (cells-agree f g fan_ins first cells h)
 
 -- each fan-in of a node is a signal, and so is what stands past them
-fan_in-within : (net : Network) (v j : ℕ) → IsNet net → v < length net.nodes → get_or (node_at net v).fan_ins j 0 < signals net
+pub fan_in-within : (net : Network) (v j : ℕ) → IsNet net → v < length net.nodes → get_or (node_at net v).fan_ins j 0 < signals net
 fan_in-within net v j h lt =
     ⊎_elim
     (λ here. (h.nodes v no_node lt).fan_ins j 0 here)

@@ -1,0 +1,47 @@
+use Rattle.std.proofs.Common.{◌∙◌, ap, arith, length, map}
+use Rattle.net_defs.specs.Evaluation.{output_signals}
+use Rattle.map_laws.proofs.SettledLemmas.{reference-outputs}
+use Rattle.lut_map.specs.Kept.{luts_of}
+use Rattle.lut_map.specs.Marks.{is_marked}
+use Rattle.lut_map.specs.Parts.{source_by}
+use Rattle.lut_map.proofs.PlaceLemmas.{length-ends, mapping_made, luts_made}
+use Rattle.lut_map.proofs.mapping.map.Goals as goal
+
+pub output_sources-requires : goal.output_sources-requires
+output_sources-requires c =
+    let net = c.args.net.now in
+    let p = c.in_ok-parts.parts in
+    ap length c.deref.ensures.value
+    ∙ length-ends net (is_marked p.needed.items) (length net.nodes) p.cells p.ends.items c.in_ok-parts.ensures.parts
+
+pub invariant_of-result : goal.invariant_of-result
+invariant_of-result c =
+    let net = c.args.net.now in
+    let p = c.in_ok-parts.parts in
+    let needed = is_marked p.needed.items in
+    let made = mapping_made net needed c.inputs.result p.cells c.into_cells.result p.ends.items c.in_ok-outputs.outputs.items c.inputs.ensures.net
+    c.in_ok-parts.ensures.parts c.inputs.ensures.count (c.into_cells.ensures.cells ∙ c.in_ok-cells.ensures)
+    (c.in_ok-outputs.ensures ∙ ap (λ l. map (source_by (length net.inputs) l) (output_signals net)) c.deref.ensures.value) in
+    luts_made net needed (luts_of c.inputs.result c.into_cells.result c.in_ok-outputs.outputs.items) c.inputs.ensures.net c.in_ok-parts.ensures.needed made
+    (omega (arith, c.into_cells.ensures.few, ap length c.into_cells.ensures.cells))
+
+pub returns-clause-reference : goal.returns-clause-reference
+returns-clause-reference c =
+    let net = c.args.net.now in
+    let p = c.in_ok-parts.parts in
+    let needed = is_marked p.needed.items in
+    let made = mapping_made net needed c.inputs.result p.cells c.into_cells.result p.ends.items c.in_ok-outputs.outputs.items c.inputs.ensures.net
+    c.in_ok-parts.ensures.parts c.inputs.ensures.count (c.into_cells.ensures.cells ∙ c.in_ok-cells.ensures)
+    (c.in_ok-outputs.ensures ∙ ap (λ l. map (source_by (length net.inputs) l) (output_signals net)) c.deref.ensures.value) in
+    (needed, c.in_ok-parts.ensures.needed, made)
+
+pub returns-clause-outputs : goal.returns-clause-outputs
+returns-clause-outputs c x y bits =
+    let net = c.args.net.now in
+    let p = c.in_ok-parts.parts in
+    let needed = is_marked p.needed.items in
+    let made = mapping_made net needed c.inputs.result p.cells c.into_cells.result p.ends.items c.in_ok-outputs.outputs.items c.inputs.ensures.net
+    c.in_ok-parts.ensures.parts c.inputs.ensures.count (c.into_cells.ensures.cells ∙ c.in_ok-cells.ensures)
+    (c.in_ok-outputs.ensures ∙ ap (λ l. map (source_by (length net.inputs) l) (output_signals net)) c.deref.ensures.value) in
+    reference-outputs net (luts_of c.inputs.result c.into_cells.result c.in_ok-outputs.outputs.items) x y c.inputs.ensures.net
+    (needed, c.in_ok-parts.ensures.needed, made) bits

@@ -1,0 +1,5 @@
+pub mod Rooms
+pub mod Steps
+pub mod Marks
+pub mod Parts
+pub mod Kept

@@ -8,8 +8,6 @@
 #![tactic(auto)]
 
 mod delivery;
-#[cfg(test)]
-mod tests;
 mod verification;
 mod verified;
 

@@ -198,7 +198,7 @@ def bundle(version, config, trace):
 
 
 def main():
-    program, rounds = sys.argv[1], int(sys.argv[2]) if len(sys.argv) > 2 else 250
+    program, rounds = sys.argv[1], int(sys.argv[2]) if len(sys.argv) > 2 else 100
     seed = int(sys.argv[3]) if len(sys.argv) > 3 else random.randrange(10**9)
     random.seed(seed)
     with open(os.path.join(HERE, "..", "crates", "pch", "data", "inverter.trace")) as file:

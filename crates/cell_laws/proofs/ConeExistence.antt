@@ -44,29 +44,29 @@ below_cases P cases (suc n) =
 
 -- the output pads reach cell k in at most so many steps
 abbrev Reached : CellsValue → ℕ → ℕ → Type 0
-Reached l zero k = ⊥
-Reached l (suc steps) k =
-    Has l.outputs (Cell k)
-    ⊎ ((m : ℕ) × (m < length l.cells) × (Reached l steps m × Has (cell_at l m).pins (Cell k)))
+Reached cells zero k = ⊥
+Reached cells (suc steps) k =
+    Has cells.outputs (Cell k)
+    ⊎ ((m : ℕ) × (m < length cells.cells) × (Reached cells steps m × Has (cell_at cells m).pins (Cell k)))
 
 -- what cell m, which is reached, has among its pins
 abbrev Passes : CellsValue → ℕ → ℕ → ℕ → Type 0
-Passes l steps k m = Reached l steps m × Has (cell_at l m).pins (Cell k)
+Passes cells steps k m = Reached cells steps m × Has (cell_at cells m).pins (Cell k)
 
 -- a cell passes it on or not
-passes_cases : (l : CellsValue) (steps k m : ℕ) → Reached l steps m ⊎ (Reached l steps m → ⊥)
-    → Passes l steps k m ⊎ (Passes l steps k m → ⊥)
-passes_cases l steps k m (inr not) = inr (λ h. not h.0)
-passes_cases l steps k m (inl there) =
-    elim (has_cell_cases (cell_at l m).pins k) [ inl has ↦ inl (there, has) | inr lacks ↦ inr (λ h. lacks h.1) ]
+passes_cases : (cells : CellsValue) (steps k m : ℕ) → Reached cells steps m ⊎ (Reached cells steps m → ⊥)
+    → Passes cells steps k m ⊎ (Passes cells steps k m → ⊥)
+passes_cases cells steps k m (inr not) = inr (λ h. not h.0)
+passes_cases cells steps k m (inl there) =
+    elim (has_cell_cases (cell_at cells m).pins k) [ inl has ↦ inl (there, has) | inr lacks ↦ inr (λ h. lacks h.1) ]
 
 -- a cell is reached in so many steps or not
-reached_cases : (l : CellsValue) (steps k : ℕ) → Reached l steps k ⊎ (Reached l steps k → ⊥)
-reached_cases l zero k = inr (λ h. h)
-reached_cases l (suc steps) k =
-    elim (has_cell_cases l.outputs k) [
+reached_cases : (cells : CellsValue) (steps k : ℕ) → Reached cells steps k ⊎ (Reached cells steps k → ⊥)
+reached_cases cells zero k = inr (λ h. h)
+reached_cases cells (suc steps) k =
+    elim (has_cell_cases cells.outputs k) [
       | inl has ↦ inl (inl has)
-      | inr lacks ↦ elim (below_cases (Passes l steps k) (λ m. passes_cases l steps k m (reached_cases l steps m)) (length l.cells)) [
+      | inr lacks ↦ elim (below_cases (Passes cells steps k) (λ m. passes_cases cells steps k m (reached_cases cells steps m)) (length cells.cells)) [
         | inl found ↦ inl (inr found)
         | inr none ↦ inr (λ h. elim h [ inl has ↦ lacks has | inr found ↦ none found.0 found.1 found.2 ])
       ]
@@ -88,32 +88,32 @@ yes_only (inl h) e = h
 yes_only (inr h) e = absurd cc
 
 -- a cell with few cells above it is reached in few steps, if at all
-few_steps : (l : CellsValue) (steps k : ℕ) → AreCells l → length l.cells ≤ k + steps → Reached l (suc steps) k → Reached l steps k
-few_steps l zero k cells le (inl has) = absurd (let lt = output_cell-lt l k cells has in omega arith)
-few_steps l zero k cells le (inr found) = found.2.0
-few_steps l (suc steps) k cells le (inl has) = inl has
-few_steps l (suc steps) k cells le (inr found) =
-    let lt : k < found.0 = listens_below l found.0 k cells found.1 found.2.1 in
-    inr (found.0, found.1, (few_steps l steps found.0 cells (omega arith) found.2.0, found.2.1))
+few_steps : (cells : CellsValue) (steps k : ℕ) → AreCells cells → length cells.cells ≤ k + steps → Reached cells (suc steps) k → Reached cells steps k
+few_steps cells zero k are_cells le (inl has) = absurd (let lt = output_cell-lt cells k are_cells has in omega arith)
+few_steps cells zero k are_cells le (inr found) = found.2.0
+few_steps cells (suc steps) k are_cells le (inl has) = inl has
+few_steps cells (suc steps) k are_cells le (inr found) =
+    let lt : k < found.0 = listens_below cells found.0 k are_cells found.1 found.2.1 in
+    inr (found.0, found.1, (few_steps cells steps found.0 are_cells (omega arith) found.2.0, found.2.1))
 
 -- what is reached is in each closed set
-reached_closed : (l : CellsValue) (set : ℕ → Bool) (steps k : ℕ) → IsClosed l set → Reached l steps k → set k ≡ true
-reached_closed l set zero k closed h = absurd h
-reached_closed l set (suc steps) k closed (inl has) = closed.outputs k has
-reached_closed l set (suc steps) k closed (inr found) =
-    closed.pins found.0 k found.1 (reached_closed l set steps found.0 closed found.2.0) found.2.1
+reached_closed : (cells : CellsValue) (set : ℕ → Bool) (steps k : ℕ) → IsClosed cells set → Reached cells steps k → set k ≡ true
+reached_closed cells set zero k closed h = absurd h
+reached_closed cells set (suc steps) k closed (inl has) = closed.outputs k has
+reached_closed cells set (suc steps) k closed (inr found) =
+    closed.pins found.0 k found.1 (reached_closed cells set steps found.0 closed found.2.0) found.2.1
 
 -- what is reached in as many steps as there are cells is the least closed set
-pub cone_exists : (l : CellsValue) → AreCells l → (set : ℕ → Bool) × IsCone l set
-cone_exists l cells =
-    let steps = length l.cells in (
-      λ k. is_yes (reached_cases l steps k),
+pub cone_exists : (cells : CellsValue) → AreCells cells → (set : ℕ → Bool) × IsCone cells set
+cone_exists cells are_cells =
+    let steps = length cells.cells in (
+      λ k. is_yes (reached_cases cells steps k),
       record {
         closed = record {
-          outputs = λ k has. yes_where (reached_cases l steps k) (few_steps l steps k cells (omega arith) (inl has));
-          pins = λ m k lt member has. yes_where (reached_cases l steps k) (few_steps l steps k cells (omega arith)
-              (inr (m, lt, (yes_only (reached_cases l steps m) member, has))));
+          outputs = λ k has. yes_where (reached_cases cells steps k) (few_steps cells steps k are_cells (omega arith) (inl has));
+          pins = λ m k lt member has. yes_where (reached_cases cells steps k) (few_steps cells steps k are_cells (omega arith)
+              (inr (m, lt, (yes_only (reached_cases cells steps m) member, has))));
         };
-        least = λ other closed k member. reached_closed l other steps k closed (yes_only (reached_cases l steps k) member);
+        least = λ other closed k member. reached_closed cells other steps k closed (yes_only (reached_cases cells steps k) member);
       },
     )

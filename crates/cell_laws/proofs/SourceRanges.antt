@@ -33,28 +33,28 @@ tapped_source-below pads end tracks of_track zero le h = tt
 tapped_source-below pads end tracks of_track (suc t) le h = h t (omega arith)
 
 -- the source of a track is an input pad or a cell of an earlier column
-pub track_source-below : (k : ConfigValue) → HasRanges k → (c t : ℕ) → c ≤ k.geometry.columns → t < k.geometry.tracks
-    → IsSourceBelow k.geometry.input_pads (c * k.geometry.rows) (track_source k c t)
-track_source-below k h zero t le lt =
-    below-weaker k.geometry.input_pads 0 (0 * k.geometry.rows) (track_source k zero t) (omega arith)
-    (pad_source-below k.geometry.input_pads (first_word k t) (h.first_words t lt))
-track_source-below k h (suc c) t le lt =
-    switched_source-below k.geometry c (track_source k c t) (track_word k c t) (h.track_words c t (omega arith) lt)
-    (track_source-below k h c t (omega arith) lt)
+pub track_source-below : (config : ConfigValue) → HasRanges config → (c t : ℕ) → c ≤ config.geometry.columns → t < config.geometry.tracks
+    → IsSourceBelow config.geometry.input_pads (c * config.geometry.rows) (track_source config c t)
+track_source-below config h zero t le lt =
+    below-weaker config.geometry.input_pads 0 (0 * config.geometry.rows) (track_source config zero t) (omega arith)
+    (pad_source-below config.geometry.input_pads (first_word config t) (h.first_words t lt))
+track_source-below config h (suc c) t le lt =
+    switched_source-below config.geometry c (track_source config c t) (track_word config c t) (h.track_words c t (omega arith) lt)
+    (track_source-below config h c t (omega arith) lt)
 
 -- so a pin listens to a cell of an earlier column
-pub pin_source-below : (k : ConfigValue) → HasRanges k → (column row pin : ℕ) → column < k.geometry.columns
-    → row < k.geometry.rows → pin < pin_count k.geometry
-    → IsSourceBelow k.geometry.input_pads (column * k.geometry.rows) (pin_source k column row pin)
-pin_source-below k h column row pin lt less within =
-    tapped_source-below k.geometry.input_pads (column * k.geometry.rows) k.geometry.tracks (track_source k column)
-    (pin_word k column row pin) (h.pin_words column row pin lt less within)
-    (λ t below. track_source-below k h column t (omega arith) below)
+pub pin_source-below : (config : ConfigValue) → HasRanges config → (column row pin : ℕ) → column < config.geometry.columns
+    → row < config.geometry.rows → pin < pin_count config.geometry
+    → IsSourceBelow config.geometry.input_pads (column * config.geometry.rows) (pin_source config column row pin)
+pin_source-below config h column row pin lt less within =
+    tapped_source-below config.geometry.input_pads (column * config.geometry.rows) config.geometry.tracks (track_source config column)
+    (pin_word config column row pin) (h.pin_words column row pin lt less within)
+    (λ t below. track_source-below config h column t (omega arith) below)
 
 -- and an output pad to a cell of the fabric
-pub output_source-below : (k : ConfigValue) → HasRanges k → (pad : ℕ) → pad < k.geometry.output_pads
-    → IsSourceBelow k.geometry.input_pads (k.geometry.columns * k.geometry.rows) (output_source k pad)
-output_source-below k h pad lt =
-    tapped_source-below k.geometry.input_pads (k.geometry.columns * k.geometry.rows) k.geometry.tracks
-    (track_source k k.geometry.columns) (output_word k pad) (h.output_words pad lt)
-    (λ t below. track_source-below k h k.geometry.columns t (omega arith) below)
+pub output_source-below : (config : ConfigValue) → HasRanges config → (pad : ℕ) → pad < config.geometry.output_pads
+    → IsSourceBelow config.geometry.input_pads (config.geometry.columns * config.geometry.rows) (output_source config pad)
+output_source-below config h pad lt =
+    tapped_source-below config.geometry.input_pads (config.geometry.columns * config.geometry.rows) config.geometry.tracks
+    (track_source config config.geometry.columns) (output_word config pad) (h.output_words pad lt)
+    (λ t below. track_source-below config h config.geometry.columns t (omega arith) below)

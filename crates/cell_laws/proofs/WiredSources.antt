@@ -25,56 +25,56 @@ switched_bit-source g x a c before (suc zero) source e = e
 switched_bit-source g x a c before (suc (suc row)) source e = refl
 
 -- the bit of a track is that of its source
-pub channel-source : (k : ConfigValue) (x : List ℕ) (w : Wiring) → Wired k x w → (c t : ℕ) → c ≤ k.geometry.columns
-    → t < k.geometry.tracks → get_or (channel w c) t 0 ≡ source_bit x w.cells (track_source k c t)
-channel-source k x w h zero t le lt = h.first_channel t lt ∙ pad_bit-source x w.cells (first_word k t)
-channel-source k x w h (suc c) t le lt =
+pub channel-source : (config : ConfigValue) (x : List ℕ) (w : Wiring) → Wired config x w → (c t : ℕ) → c ≤ config.geometry.columns
+    → t < config.geometry.tracks → get_or (channel w c) t 0 ≡ source_bit x w.cells (track_source config c t)
+channel-source config x w h zero t le lt = h.first_channel t lt ∙ pad_bit-source x w.cells (first_word config t)
+channel-source config x w h (suc c) t le lt =
     ap (λ n. get_or (channel w n) t 0) (sym (add-one c))
     ∙ h.next_channels c t (omega arith) lt
-    ∙ switched_bit-source k.geometry x w.cells c (get_or (channel w c) t 0) (track_word k c t) (track_source k c t)
-    (channel-source k x w h c t (omega arith) lt)
+    ∙ switched_bit-source config.geometry x w.cells c (get_or (channel w c) t 0) (track_word config c t) (track_source config c t)
+    (channel-source config x w h c t (omega arith) lt)
 
 -- what listens to a track of a channel has the bit of its source
-tapped_bit-source : (k : ConfigValue) (x : List ℕ) (w : Wiring) → Wired k x w → (c word : ℕ) → c ≤ k.geometry.columns
-    → word ≤ k.geometry.tracks → tapped_bit (channel w c) word ≡ source_bit x w.cells (tapped_source (track_source k c) word)
-tapped_bit-source k x w h c zero le within = refl
-tapped_bit-source k x w h c (suc t) le within = channel-source k x w h c t le (omega arith)
+tapped_bit-source : (config : ConfigValue) (x : List ℕ) (w : Wiring) → Wired config x w → (c word : ℕ) → c ≤ config.geometry.columns
+    → word ≤ config.geometry.tracks → tapped_bit (channel w c) word ≡ source_bit x w.cells (tapped_source (track_source config c) word)
+tapped_bit-source config x w h c zero le within = refl
+tapped_bit-source config x w h c (suc t) le within = channel-source config x w h c t le (omega arith)
 
 -- the bits of a cell's pins
-cell_pins-source : (k : ConfigValue) (x : List ℕ) (w : Wiring) → HasRanges k → Wired k x w → (column row : ℕ)
-    → column < k.geometry.columns → row < k.geometry.rows → cell_number k.geometry column row < cell_count k.geometry
-    → cell_pins w (cell_number k.geometry column row)
-    ≡ source_bits x w.cells (list_of (pin_count k.geometry) (pin_source k column row))
-cell_pins-source k x w ranges h column row lt less within =
-    sym (list_of-get_or (pin_count k.geometry) (cell_pins w (cell_number k.geometry column row)) 0
-    (h.shape.pins (cell_number k.geometry column row) within))
-    ∙ list_of-agree (pin_count k.geometry) _ _
+cell_pins-source : (config : ConfigValue) (x : List ℕ) (w : Wiring) → HasRanges config → Wired config x w → (column row : ℕ)
+    → column < config.geometry.columns → row < config.geometry.rows → cell_number config.geometry column row < cell_count config.geometry
+    → cell_pins w (cell_number config.geometry column row)
+    ≡ source_bits x w.cells (list_of (pin_count config.geometry) (pin_source config column row))
+cell_pins-source config x w ranges h column row lt less within =
+    sym (list_of-get_or (pin_count config.geometry) (cell_pins w (cell_number config.geometry column row)) 0
+    (h.shape.pins (cell_number config.geometry column row) within))
+    ∙ list_of-agree (pin_count config.geometry) _ _
     (λ pin below. h.pins column row pin lt less below
-    ∙ tapped_bit-source k x w h column (pin_word k column row pin) (omega arith) (ranges.pin_words column row pin lt less below))
-    ∙ sym (map-list_of (source_bit x w.cells) (pin_count k.geometry) (pin_source k column row))
+    ∙ tapped_bit-source config x w h column (pin_word config column row pin) (omega arith) (ranges.pin_words column row pin lt less below))
+    ∙ sym (map-list_of (source_bit x w.cells) (pin_count config.geometry) (pin_source config column row))
 
 -- the equation of the cell at a column and a row
-wired_bit : (k : ConfigValue) (l : CellsValue) (x : List ℕ) (w : Wiring) → HasRanges k → AreSourcesOf k l → Wired k x w
-    → (column row : ℕ) → column < k.geometry.columns → row < k.geometry.rows
-    → cell_number k.geometry column row < cell_count k.geometry → IsCellBit l x w.cells (cell_number k.geometry column row)
-wired_bit k l x w ranges of h column row lt less within =
+wired_bit : (config : ConfigValue) (cells : CellsValue) (x : List ℕ) (w : Wiring) → HasRanges config → AreSourcesOf config cells → Wired config x w
+    → (column row : ℕ) → column < config.geometry.columns → row < config.geometry.rows
+    → cell_number config.geometry column row < cell_count config.geometry → IsCellBit cells x w.cells (cell_number config.geometry column row)
+wired_bit config cells x w ranges of h column row lt less within =
     h.cells column row lt less
-    ∙ ap (table_bit (table k column row)) (cell_pins-source k x w ranges h column row lt less within)
+    ∙ ap (table_bit (table config column row)) (cell_pins-source config x w ranges h column row lt less within)
     ∙ ap (chosen_bit x w.cells) (sym (of.each column row lt less))
 
 -- the cells of a wiring obey the equations of all cells
-pub wired_bits : (k : ConfigValue) (l : CellsValue) (x : List ℕ) (w : Wiring) → HasRanges k → AreSourcesOf k l → Wired k x w
-    → CellBits l x w.cells
-wired_bits k l x w ranges of h = record {
+pub wired_bits : (config : ConfigValue) (cells : CellsValue) (x : List ℕ) (w : Wiring) → HasRanges config → AreSourcesOf config cells → Wired config x w
+    → CellBits cells x w.cells
+wired_bits config cells x w ranges of h = record {
   count = h.shape.cells ∙ sym of.count;
-  each = λ n lt. by_place k.geometry (IsCellBit l x w.cells) (wired_bit k l x w ranges of h) n (omega (arith, of.count));
+  each = λ n lt. by_place config.geometry (IsCellBit cells x w.cells) (wired_bit config cells x w ranges of h) n (omega (arith, of.count));
 }
 
 -- the output pads have the bits of their sources
-pub pad_bits-source : (k : ConfigValue) (l : CellsValue) (x : List ℕ) (w : Wiring) → HasRanges k → AreSourcesOf k l → Wired k x w
-    → output_bits l x w.cells ≡ pad_bits k w
-pad_bits-source k l x w ranges of h =
+pub pad_bits-source : (config : ConfigValue) (cells : CellsValue) (x : List ℕ) (w : Wiring) → HasRanges config → AreSourcesOf config cells → Wired config x w
+    → output_bits cells x w.cells ≡ pad_bits config w
+pad_bits-source config cells x w ranges of h =
     ap (source_bits x w.cells) of.outputs
-    ∙ map-list_of (source_bit x w.cells) k.geometry.output_pads (output_source k)
-    ∙ list_of-agree k.geometry.output_pads _ _
-    (λ pad lt. sym (tapped_bit-source k x w h k.geometry.columns (output_word k pad) (omega arith) (ranges.output_words pad lt)))
+    ∙ map-list_of (source_bit x w.cells) config.geometry.output_pads (output_source config)
+    ∙ list_of-agree config.geometry.output_pads _ _
+    (λ pad lt. sym (tapped_bit-source config x w h config.geometry.columns (output_word config pad) (omega arith) (ranges.output_words pad lt)))

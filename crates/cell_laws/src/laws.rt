@@ -43,8 +43,8 @@ pub fn sources_are_cells()
 
 /// A configuration has one list of cells, one list of sources of output pads and one cone.
 pub fn cells_are_unique()
-    ensures { (config : ConfigValue) (l m : CellsValue) → AreCellsOf config l → AreCellsOf config m
-        → l ≡ m }
+    ensures { (config : ConfigValue) (cells others : CellsValue)
+        → AreCellsOf config cells → AreCellsOf config others → cells ≡ others }
 {}
 
 /// A configuration has cells and a cone.

@@ -36,29 +36,29 @@ net_output net s o = get_or s (get_or net.outputs o no_output).signal 0
 
 -- output pad o, where the cells have the bits b
 abbrev pub pad_output : CellsValue → List ℕ → List ℕ → ℕ → ℕ
-pad_output l x b o = source_bit x b (get_or l.outputs o Zero)
+pad_output cells x b o = source_bit x b (get_or cells.outputs o Zero)
 
 -- where each output differs
 abbrev differences : Network → CellsValue → List ℕ → List ℕ → List ℕ → List ℕ
-differences net l x s b = list_of (length net.outputs) (λ o. difference (net_output net s o) (pad_output l x b o))
+differences net cells x s b = list_of (length net.outputs) (λ o. difference (net_output net s o) (pad_output cells x b o))
 
 -- the bits of the cells in the cone
 abbrev cone_bits : CellsValue → List ℕ → List ℕ
-cone_bits l b = kept l.cone (λ k. get_or b k 0)
+cone_bits cells b = kept cells.cone (λ k. get_or b k 0)
 
 -- where the inputs have the bits x, the signals the bits s and the cells the bits b
 pub assignment : Network → CellsValue → List ℕ → List ℕ → List ℕ → List ℕ
-assignment net l x s b = 0 ∷ (s ++ (flat_map (row_bits s) net.nodes ++ (cone_bits l b ++ differences net l x s b)))
+assignment net cells x s b = 0 ∷ (s ++ (flat_map (row_bits s) net.nodes ++ (cone_bits cells b ++ differences net cells x s b)))
 
 -- the assignment gives each variable its bit
-pub record GivesAll (net : Network) (l : CellsValue) (x s b a : List ℕ) : Type 0 where
+pub record GivesAll (net : Network) (cells : CellsValue) (x s b a : List ℕ) : Type 0 where
   pub zero : Gives a zero_variable 0
   pub signals : (i : ℕ) → i < signals net → Gives a (signal_variable i) (get_or s i 0)
   pub rows : (v r : ℕ) → v < length net.nodes → r < length (node_at net v).rows
       → Gives a (row_variable net v r) (bit (hits (row_at net v r) (bits_at s (node_at net v).fan_ins)))
-  pub cells : (k : ℕ) → in_cone l k ≡ true → Gives a (cell_variable net l k) (get_or b k 0)
+  pub cone : (k : ℕ) → in_cone cells k ≡ true → Gives a (cell_variable net cells k) (get_or b k 0)
   pub differences : (o : ℕ) → o < length net.outputs
-      → Gives a (difference_variable net l o) (difference (net_output net s o) (pad_output l x b o))
+      → Gives a (difference_variable net cells o) (difference (net_output net s o) (pad_output cells x b o))
 
 -- the variable of place i is i + 1
 gives_at : (a : List ℕ) (v i b : ℕ) → v ≡ i + 1 → slice_get a i ≡ Some b → Gives a v b
@@ -70,8 +70,8 @@ length-rows net s =
     length-flat_map_by (row_bits s) (λ (node : Node). length node.rows) (λ node. length-map node.rows _) net.nodes
 
 -- and one for each cell of the cone
-length-cone : (l : CellsValue) (b : List ℕ) → length (cone_bits l b) ≡ cone_size l
-length-cone l b = length-kept l.cone (λ k. get_or b k 0)
+length-cone : (cells : CellsValue) (b : List ℕ) → length (cone_bits cells b) ≡ cone_size cells
+length-cone cells b = length-kept cells.cone (λ k. get_or b k 0)
 
 -- place i behind zero and the signals
 behind_signals : (net : Network) (s rest : List ℕ) (v i y : ℕ) → length s ≡ signals net → v ≡ 2 + signals net + i
@@ -82,33 +82,33 @@ behind_signals net s rest v i y e at h =
     (at_right s rest i (length s + i) y refl h))
 
 -- each variable has its bit at its place
-pub gives_all : (net : Network) (l : CellsValue) (x s b : List ℕ) → length s ≡ signals net
-    → GivesAll net l x s b (assignment net l x s b)
+pub gives_all : (net : Network) (cells : CellsValue) (x s b : List ℕ) → length s ≡ signals net
+    → GivesAll net cells x s b (assignment net cells x s b)
 unfolding assignment
-gives_all net l x s b e =
+gives_all net cells x s b e =
     let rows : List ℕ = flat_map (row_bits s) net.nodes in
-    let cells : List ℕ = cone_bits l b in
-    let last : List ℕ = differences net l x s b in
+    let cone : List ℕ = cone_bits cells b in
+    let last : List ℕ = differences net cells x s b in
     let row_total : length rows ≡ row_count net = length-rows net s in
-    let cell_total : length cells ≡ cone_size l = length-cone l b in
+    let cell_total : length cone ≡ cone_size cells = length-cone cells b in
     record {
       zero = refl;
-      signals = λ i lt. gives_at (0 ∷ (s ++ (rows ++ (cells ++ last)))) (signal_variable i) (1 + i) (get_or s i 0) (omega arith)
-          (at_right (0 ∷ []) (s ++ (rows ++ (cells ++ last))) i (1 + i) (get_or s i 0) (omega arith)
-          (at_left s (rows ++ (cells ++ last)) i (get_or s i 0) (slice_get-get_or s i 0 (omega arith))));
-      rows = λ v r lt below. behind_signals net s (rows ++ (cells ++ last)) (row_variable net v r) (rows_before net v + r) _ e (omega arith)
-          (at_left rows (cells ++ last) (rows_before net v + r) _
+      signals = λ i lt. gives_at (0 ∷ (s ++ (rows ++ (cone ++ last)))) (signal_variable i) (1 + i) (get_or s i 0) (omega arith)
+          (at_right (0 ∷ []) (s ++ (rows ++ (cone ++ last))) i (1 + i) (get_or s i 0) (omega arith)
+          (at_left s (rows ++ (cone ++ last)) i (get_or s i 0) (slice_get-get_or s i 0 (omega arith))));
+      rows = λ v r lt below. behind_signals net s (rows ++ (cone ++ last)) (row_variable net v r) (rows_before net v + r) _ e (omega arith)
+          (at_left rows (cone ++ last) (rows_before net v + r) _
           (at_flat_map (row_bits s) (λ (node : Node). length node.rows) (λ node. length-map node.rows _)
           net.nodes v r (rows_before net v + r) no_node _ lt refl
           (slice_get-map _ (node_at net v).rows r ∙ ap (option_map _) (slice_get-get_or (node_at net v).rows r [] below))));
-      cells = λ k member. behind_signals net s (rows ++ (cells ++ last)) (cell_variable net l k) (row_count net + cone_before l k) _ e (omega arith)
-          (at_right rows (cells ++ last) (cone_before l k) (row_count net + cone_before l k) _ (omega arith)
-          (at_left cells last (cone_before l k) _
-          (at_kept l.cone (λ i. get_or b i 0) k (cone_before l k) member refl)));
-      differences = λ o lt. behind_signals net s (rows ++ (cells ++ last)) (difference_variable net l o) (row_count net + (cone_size l + o)) _ e (omega arith)
-          (at_right rows (cells ++ last) (cone_size l + o) (row_count net + (cone_size l + o)) _ (omega arith)
-          (at_right cells last o (cone_size l + o) _ (omega arith)
-          (at_list_of (length net.outputs) (λ p. difference (net_output net s p) (pad_output l x b p)) o lt)));
+      cone = λ k member. behind_signals net s (rows ++ (cone ++ last)) (cell_variable net cells k) (row_count net + cone_before cells k) _ e (omega arith)
+          (at_right rows (cone ++ last) (cone_before cells k) (row_count net + cone_before cells k) _ (omega arith)
+          (at_left cone last (cone_before cells k) _
+          (at_kept cells.cone (λ i. get_or b i 0) k (cone_before cells k) member refl)));
+      differences = λ o lt. behind_signals net s (rows ++ (cone ++ last)) (difference_variable net cells o) (row_count net + (cone_size cells + o)) _ e (omega arith)
+          (at_right rows (cone ++ last) (cone_size cells + o) (row_count net + (cone_size cells + o)) _ (omega arith)
+          (at_right cone last o (cone_size cells + o) _ (omega arith)
+          (at_list_of (length net.outputs) (λ p. difference (net_output net s p) (pad_output cells x b p)) o lt)));
     }
 
 -- ---- all of it are bits
@@ -163,13 +163,13 @@ signals-bits net x s bits settles y has =
     subst P r.2 (signal-within net x s bits settles r.0 (let below : r.0 < length s = r.1 in omega (arith, settles.all_signals)))
 
 -- a cell has a bit of its table
-pub cells-bits : (l : CellsValue) (x b : List ℕ) → CellBits l x b → Each (λ y. y ≤ 1) b
-cells-bits l x b h y has =
+pub cells-bits : (cells : CellsValue) (x b : List ℕ) → CellBits cells x b → Each (λ y. y ≤ 1) b
+cells-bits cells x b h y has =
     let r = Has_place b y 0 has in
     let below : r.0 < length b = r.1 in
-    let values : List ℕ = map (source_bit x b) (cell_at l r.0).pins in
-    let same : get_or b r.0 0 ≡ bit_at (cell_at l r.0).table (word_of values) = h.each r.0 (omega (arith, h.count)) in
-    let small : bit_at (cell_at l r.0).table (word_of values) < 2 = bit_at-lt (cell_at l r.0).table (word_of values) in
+    let values : List ℕ = map (source_bit x b) (cell_at cells r.0).pins in
+    let same : get_or b r.0 0 ≡ bit_at (cell_at cells r.0).table (word_of values) = h.each r.0 (omega (arith, h.count)) in
+    let small : bit_at (cell_at cells r.0).table (word_of values) < 2 = bit_at-lt (cell_at cells r.0).table (word_of values) in
     let P : ℕ → Type 0 = λ m. m ≤ 1 in
     subst P r.2 (omega arith)
 
@@ -183,51 +183,51 @@ rows-bits s (node ∷ nodes) =
     (rows-bits s nodes)
 
 -- there is one bit for each variable
-pub is_assignment : (net : Network) (l : CellsValue) (x s b : List ℕ) → IsBits (length net.inputs) x → Settles net x s → CellBits l x b
-    → IsAssignment (variable_count net l) (assignment net l x s b)
+pub is_assignment : (net : Network) (cells : CellsValue) (x s b : List ℕ) → IsBits (length net.inputs) x → Settles net x s → CellBits cells x b
+    → IsAssignment (variable_count net cells) (assignment net cells x s b)
 unfolding assignment
-is_assignment net l x s b bits settles cell_bits =
+is_assignment net cells x s b bits settles cell_bits =
     let rows : List ℕ = flat_map (row_bits s) net.nodes in
-    let cells : List ℕ = cone_bits l b in
-    let last : List ℕ = differences net l x s b in
+    let cone : List ℕ = cone_bits cells b in
+    let last : List ℕ = differences net cells x s b in
     let Small : ℕ → Type 0 = λ y. y ≤ 1 in
     record {
       all_variables =
           omega (
             arith,
-            length-append s (rows ++ (cells ++ last)),
-            length-append rows (cells ++ last),
-            length-append cells last,
+            length-append s (rows ++ (cone ++ last)),
+            length-append rows (cone ++ last),
+            length-append cone last,
             settles.all_signals,
             length-rows net s,
-            length-cone l b,
-            length-list_of (length net.outputs) (λ o. difference (net_output net s o) (pad_output l x b o)),
+            length-cone cells b,
+            length-list_of (length net.outputs) (λ o. difference (net_output net s o) (pad_output cells x b o)),
           );
-      bits = each_cons Small 0 (s ++ (rows ++ (cells ++ last))) (omega arith)
-          (each_append Small s (rows ++ (cells ++ last)) (signals-bits net x s bits settles)
-          (each_append Small rows (cells ++ last) (rows-bits s net.nodes)
-          (each_append Small cells last
-          (each_kept Small l.cone (λ k. get_or b k 0) (λ k. bit-within b k (cells-bits l x b cell_bits)))
-          (each_list_of Small (length net.outputs) (λ o. difference (net_output net s o) (pad_output l x b o))
-          (λ o _. difference-le (net_output net s o) (pad_output l x b o))))));
+      bits = each_cons Small 0 (s ++ (rows ++ (cone ++ last))) (omega arith)
+          (each_append Small s (rows ++ (cone ++ last)) (signals-bits net x s bits settles)
+          (each_append Small rows (cone ++ last) (rows-bits s net.nodes)
+          (each_append Small cone last
+          (each_kept Small cells.cone (λ k. get_or b k 0) (λ k. bit-within b k (cells-bits cells x b cell_bits)))
+          (each_list_of Small (length net.outputs) (λ o. difference (net_output net s o) (pad_output cells x b o))
+          (λ o _. difference-le (net_output net s o) (pad_output cells x b o))))));
     }
 
 -- ---- sources
 
 -- a source has the bit of its variable, if it is no cell outside the cone
-pub gives_source : (net : Network) (l : CellsValue) (x s b a : List ℕ) → GivesAll net l x s b a → Settles net x s
+pub gives_source : (net : Network) (cells : CellsValue) (x s b a : List ℕ) → GivesAll net cells x s b a → Settles net x s
     → IsBits (length net.inputs) x → (source : Source)
-    → ((k : ℕ) → source ≡ Cell k → in_cone l k ≡ true)
-    → Gives a (source_variable net l source) (source_bit x b source)
-gives_source net l x s b a g settles bits Zero h = g.zero
-gives_source net l x s b a g settles bits (Pad p) h =
+    → ((k : ℕ) → source ≡ Cell k → in_cone cells k ≡ true)
+    → Gives a (source_variable net cells source) (source_bit x b source)
+gives_source net cells x s b a g settles bits Zero h = g.zero
+gives_source net cells x s b a g settles bits (Pad p) h =
     ⊎_elim
     (λ here. rw (lt-ltb p (length net.inputs) here)
     (g.signals p (omega arith)
     ∙ ap Some (sym (get_or-take (length net.inputs) s p 0 here) ∙ ap (λ ys. get_or ys p 0) settles.inputs)))
     (λ past. rw (le-ltb p (length net.inputs) past) (g.zero ∙ ap Some (sym (get_or_past x p 0 (omega (arith, bits.count))))))
     (cases_lt p (length net.inputs))
-gives_source net l x s b a g settles bits (Cell k) h = g.cells k (h k refl)
+gives_source net cells x s b a g settles bits (Cell k) h = g.cone k (h k refl)
 
 -- where the inputs and the cells have bits, so has each source
 pub source_bit-le : (x b : List ℕ) → Each (λ y. y ≤ 1) x → Each (λ y. y ≤ 1) b → (source : Source) → source_bit x b source ≤ 1

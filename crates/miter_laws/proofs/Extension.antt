@@ -30,13 +30,13 @@ use Rattle.miter_laws.proofs.Circuits.{Extended, circuits-hold, Satisfies-clause
 -- ---- the last clause
 
 -- output pads that agree with the outputs place by place are the outputs
-outputs-same : (net : Network) (l : CellsValue) (x s b : List ℕ) → length net.outputs ≤ length l.outputs
-    → ((o : ℕ) → o < length net.outputs → pad_output l x b o ≡ net_output net s o)
-    → take (length net.outputs) (output_bits l x b) ≡ bits_at s (output_signals net)
-outputs-same net l x s b fits same =
+outputs-same : (net : Network) (cells : CellsValue) (x s b : List ℕ) → length net.outputs ≤ length cells.outputs
+    → ((o : ℕ) → o < length net.outputs → pad_output cells x b o ≡ net_output net s o)
+    → take (length net.outputs) (output_bits cells x b) ≡ bits_at s (output_signals net)
+outputs-same net cells x s b fits same =
     let signal = λ (o : Output). o.signal in
-    let pads : List ℕ = output_bits l x b in
-    let pad_count : length pads ≡ length l.outputs = length-map l.outputs (source_bit x b) in
+    let pads : List ℕ = output_bits cells x b in
+    let pad_count : length pads ≡ length cells.outputs = length-map cells.outputs (source_bit x b) in
     let signal_count : length (output_signals net) ≡ length net.outputs = length-map net.outputs signal in
     let bit_count : length (bits_at s (output_signals net)) ≡ length (output_signals net) = length-map (output_signals net) _ in
     let taken : length (take (length net.outputs) pads) ≡ length net.outputs =
@@ -45,7 +45,7 @@ outputs-same net l x s b fits same =
     (omega arith)
     (λ o d lt. let below : o < length net.outputs = omega arith in
     get_or-take (length net.outputs) pads o d below
-    ∙ get_or-map (source_bit x b) l.outputs o Zero d (omega arith)
+    ∙ get_or-map (source_bit x b) cells.outputs o Zero d (omega arith)
     ∙ same o below
     ∙ ap (λ i. get_or s i 0) (sym (get_or-map signal net.outputs o no_output 0 below))
     ∙ sym (get_or-map (λ i. get_or s i 0) (output_signals net) o 0 d (omega arith)))
@@ -55,75 +55,75 @@ difference-one : (p q : ℕ) → (q ≢ p) → difference p q ≡ 1
 difference-one p q ne = rw (ne_eqb p q (λ e. ne (sym e))) refl
 
 -- where outputs differ, some difference is true
-some_difference-holds : (net : Network) (l : CellsValue) (x s b a : List ℕ) → Extended net l x s b a
-    → OutputsDiffer net l x → Satisfies a (some_difference net l)
-some_difference-holds net l x s b a h d =
+some_difference-holds : (net : Network) (cells : CellsValue) (x s b a : List ℕ) → Extended net cells x s b a
+    → OutputsDiffer net cells x → Satisfies a (some_difference net cells)
+some_difference-holds net cells x s b a h d =
     let n = h.is_net in
-    let cs = h.cells in
+    let cs = h.are_cells in
     let fits = h.outputs in
     let spec = d.2 in
     let signals-same : spec.0 ≡ s = assignment_is_unique net x spec.0 s n.acyclic spec.1 h.settles in
-    let cells-same : d.1 ≡ b = bits-unique l x d.1 b h.cells d.3 h.cell_bits in
-    elim (agree_or_differ (pad_output l x b) (net_output net s) (length net.outputs)) [
-      | inl same ↦ absurd (d.4 (ap (λ bits. take (length net.outputs) (output_bits l x bits)) cells-same
-          ∙ outputs-same net l x s b (omega (arith, cs.pads)) same
+    let cells-same : d.1 ≡ b = bits-unique cells x d.1 b h.are_cells d.3 h.cell_bits in
+    elim (agree_or_differ (pad_output cells x b) (net_output net s) (length net.outputs)) [
+      | inl same ↦ absurd (d.4 (ap (λ bits. take (length net.outputs) (output_bits cells x bits)) cells-same
+          ∙ outputs-same net cells x s b (omega (arith, cs.pads)) same
           ∙ ap (λ bits. bits_at bits (output_signals net)) (sym signals-same)
           ∙ sym spec.2))
       | inr found ↦ (
-        positive (difference_variable net l found.0),
-        list_of-has (length net.outputs) (λ o. positive (difference_variable net l o)) found.0 found.1,
-        true_literal a (difference_variable net l found.0) (difference (net_output net s found.0) (pad_output l x b found.0)) true
+        positive (difference_variable net cells found.0),
+        list_of-has (length net.outputs) (λ o. positive (difference_variable net cells o)) found.0 found.1,
+        true_literal a (difference_variable net cells found.0) (difference (net_output net s found.0) (pad_output cells x b found.0)) true
             (h.gives.differences found.0 found.1)
-            (difference-one (net_output net s found.0) (pad_output l x b found.0) found.2),
+            (difference-one (net_output net s found.0) (pad_output cells x b found.0) found.2),
       )
     ]
 
 -- ---- the extension
 
 -- the assignment by places comes from the equations of both circuits
-extended : (net : Network) (l : CellsValue) (x s b : List ℕ) → IsNet net → AreCells l → IsClosed l (in_cone l)
-    → length net.outputs ≤ l.geometry.output_pads → IsBits (length net.inputs) x → Settles net x s → CellBits l x b
-    → Extended net l x s b (assignment net l x s b)
-extended net l x s b n cells closed fits bits settles cell_bits = record {
+extended : (net : Network) (cells : CellsValue) (x s b : List ℕ) → IsNet net → AreCells cells → IsClosed cells (in_cone cells)
+    → length net.outputs ≤ cells.geometry.output_pads → IsBits (length net.inputs) x → Settles net x s → CellBits cells x b
+    → Extended net cells x s b (assignment net cells x s b)
+extended net cells x s b n are_cells closed fits bits settles cell_bits = record {
   is_net = n;
-  cells = cells;
+  are_cells = are_cells;
   closed = closed;
   outputs = fits;
   bits = bits;
   settles = settles;
   cell_bits = cell_bits;
-  gives = gives_all net l x s b settles.all_signals;
+  gives = gives_all net cells x s b settles.all_signals;
 }
 
 -- so it extends the input
-extends : (net : Network) (l : CellsValue) (x s b : List ℕ) → Extended net l x s b (assignment net l x s b)
-    → Extends net l x (assignment net l x s b)
-extends net l x s b h =
-    let a : List ℕ = assignment net l x s b in
+extends : (net : Network) (cells : CellsValue) (x s b : List ℕ) → Extended net cells x s b (assignment net cells x s b)
+    → Extends net cells x (assignment net cells x s b)
+extends net cells x s b h =
+    let a : List ℕ = assignment net cells x s b in
     record {
-      assignment = is_assignment net l x s b h.bits h.settles h.cell_bits;
+      assignment = is_assignment net cells x s b h.bits h.settles h.cell_bits;
       inputs = λ i lt. h.gives.signals i (omega arith)
           ∙ ap Some (sym (get_or-take (length net.inputs) s i 0 lt) ∙ ap (λ ys. get_or ys i 0) h.settles.inputs);
-      circuits = circuits-hold net l x s b a h;
-      difference = λ d. Satisfies-clause_of a (some_difference net l) (some_difference-holds net l x s b a h d);
+      circuits = circuits-hold net cells x s b a h;
+      difference = λ d. Satisfies-clause_of a (some_difference net cells) (some_difference-holds net cells x s b a h d);
     }
 
 -- there is an extension of each input
-pub input_extends : (net : Network) (l : CellsValue) (x : List ℕ) → IsNet net → AreCells l → IsClosed l (in_cone l)
-    → length net.outputs ≤ l.geometry.output_pads → IsBits (length net.inputs) x → (a : List ℕ) × Extends net l x a
-input_extends net l x n cells closed fits bits =
+pub input_extends : (net : Network) (cells : CellsValue) (x : List ℕ) → IsNet net → AreCells cells → IsClosed cells (in_cone cells)
+    → length net.outputs ≤ cells.geometry.output_pads → IsBits (length net.inputs) x → (a : List ℕ) × Extends net cells x a
+input_extends net cells x n are_cells closed fits bits =
     let s = assignment_exists net x n.acyclic bits.count in
-    let b = bits-exist l x cells in
-    (assignment net l x s.0 b.0, extends net l x s.0 b.0 (extended net l x s.0 b.0 n cells closed fits bits s.1 b.1))
+    let b = bits-exist cells x are_cells in
+    (assignment net cells x s.0 b.0, extends net cells x s.0 b.0 (extended net cells x s.0 b.0 n are_cells closed fits bits s.1 b.1))
 
 -- where outputs differ, the extension satisfies the whole miter
-all-hold : (net : Network) (l : CellsValue) (x a : List ℕ) → Extends net l x a → OutputsDiffer net l x
-    → Each (Satisfies a) (Miter net l).clauses
-all-hold net l x a h d =
-    each_map (Satisfies a) clause_of (circuit_clauses net l ++ some_difference net l ∷ [])
-    (each_append (λ c. Satisfies a (clause_of c)) (circuit_clauses net l) (some_difference net l ∷ [])
-    (λ c has. h.circuits (clause_of c) (Has-map_of clause_of (circuit_clauses net l) c has))
-    (each_one (λ c. Satisfies a (clause_of c)) (some_difference net l) (h.difference d)))
+all-hold : (net : Network) (cells : CellsValue) (x a : List ℕ) → Extends net cells x a → OutputsDiffer net cells x
+    → Each (Satisfies a) (Miter net cells).clauses
+all-hold net cells x a h d =
+    each_map (Satisfies a) clause_of (circuit_clauses net cells ++ some_difference net cells ∷ [])
+    (each_append (λ c. Satisfies a (clause_of c)) (circuit_clauses net cells) (some_difference net cells ∷ [])
+    (λ c has. h.circuits (clause_of c) (Has-map_of clause_of (circuit_clauses net cells) c has))
+    (each_one (λ c. Satisfies a (clause_of c)) (some_difference net cells) (h.difference d)))
 
 -- ---- equality
 
@@ -142,22 +142,22 @@ same_or_not (x ∷ xs) (y ∷ ys) =
     ]
 
 -- an input where outputs differ would satisfy the miter
-pub equal-from_unsat : (net : Network) (k : ConfigValue) (l : CellsValue) → IsNet net → IsConfig k → AreSourcesOf k l
-    → IsClosed l (in_cone l) → FitsPads net k.geometry
-    → Unsat (variable_count net l) (Miter net l).clauses → Equal net k
-equal-from_unsat net k l n config of closed pads unsat = record {
+pub equal-from_unsat : (net : Network) (config : ConfigValue) (cells : CellsValue) → IsNet net → IsConfig config → AreSourcesOf config cells
+    → IsClosed cells (in_cone cells) → FitsPads net config.geometry
+    → Unsat (variable_count net cells) (Miter net cells).clauses → Equal net config
+equal-from_unsat net config cells n is_config of closed pads unsat = record {
   fits = pads;
   same = λ x y z bits spec fabric.
-      let cells : AreCells l = cells_of_config k l config of in
-      let fits : length net.outputs ≤ l.geometry.output_pads =
+      let are_cells : AreCells cells = cells_of_config config cells is_config of in
+      let fits : length net.outputs ≤ cells.geometry.output_pads =
       omega (arith, pads.outputs, ap (λ (g : GeometryValue). g.output_pads) of.geometry) in
-      let b = bits-exist l x cells in
-      let pads : output_bits l x b.0 ≡ z = cells-outputs k l x b.0 fabric.0 config of fabric.1 b.1 ∙ sym fabric.2 in
-      let extension = input_extends net l x n cells closed fits bits in
+      let b = bits-exist cells x are_cells in
+      let pads : output_bits cells x b.0 ≡ z = cells-outputs config cells x b.0 fabric.0 is_config of fabric.1 b.1 ∙ sym fabric.2 in
+      let extension = input_extends net cells x n are_cells closed fits bits in
       let extends_x = extension.1 in
-      elim (same_or_not (take (length net.outputs) (output_bits l x b.0)) y) [
+      elim (same_or_not (take (length net.outputs) (output_bits cells x b.0)) y) [
         | inl same ↦ ap (take (length net.outputs)) (sym pads) ∙ same
         | inr other ↦ absurd (unsat extension.0 extends_x.assignment
-            (all-hold net l x extension.0 extension.1 (y, b.0, spec, b.1, other)))
+            (all-hold net cells x extension.0 extension.1 (y, b.0, spec, b.1, other)))
       ];
 }

@@ -1,5 +1,5 @@
 -- What lists have that are made of others.
-use Rattle.std.proofs.Common.{◌≡◌, ℕ, zero, suc, ◌<◌, ◌⊎◌, inl, inr, List, [], ◌∷◌, ◌++◌, length, map, get_or, All, refl, ap, subst, ⊎_elim, arith}
+use Rattle.std.proofs.Common.{◌≡◌, ℕ, zero, suc, ◌<◌, ◌⊎◌, inl, inr, List, [], ◌∷◌, ◌++◌, length, map, get_or, refl, ap, subst, ⊎_elim, arith}
 use Rattle.std.proofs.lemmas.Bool.{cases_lt}
 use Rattle.clause_defs.specs.Clauses.{Has}
 use Rattle.clause_laws.proofs.ClauseLemmas.{Has-map}
@@ -9,7 +9,7 @@ use Rattle.fabric_defs.specs.Numbered.{list_of, joined}
 pub Has-append : {X : Type 0} (xs ys : List X) (z : X) → Has (xs ++ ys) z → Has xs z ⊎ Has ys z
 Has-append [] ys z h = inr h
 Has-append (x ∷ xs) ys z (inl e) = inl (inl e)
-Has-append (x ∷ xs) ys z (inr h) = elim (Has-append xs ys z h) [ inl k ↦ inl (inr k) | inr k ↦ inr k ]
+Has-append (x ∷ xs) ys z (inr h) = elim (Has-append xs ys z h) [ inl first ↦ inl (inr first) | inr second ↦ inr second ]
 
 -- a member of the first
 pub Has-append_left : {X : Type 0} (xs ys : List X) (z : X) → Has xs z → Has (xs ++ ys) z
@@ -33,8 +33,8 @@ pub Has-list_of : {X : Type 0} (n : ℕ) (f : ℕ → X) (z : X) → Has (list_o
 Has-list_of zero f z h = absurd h
 Has-list_of (suc n) f z h =
     elim (Has-append (list_of n f) (f n ∷ []) z h) [
-      | inl k ↦ let r = Has-list_of n f z k in let below : r.0 < n = r.1 in (r.0, omega arith, r.2)
-      | inr k ↦ elim k [ inl e ↦ (n, omega arith, e) | inr none ↦ absurd none ]
+      | inl before ↦ let r = Has-list_of n f z before in let below : r.0 < n = r.1 in (r.0, omega arith, r.2)
+      | inr last ↦ elim last [ inl e ↦ (n, omega arith, e) | inr none ↦ absurd none ]
     ]
 
 -- the value at a place below n
@@ -50,8 +50,8 @@ pub Has-joined : {X : Type 0} (n : ℕ) (f : ℕ → List X) (z : X) → Has (jo
 Has-joined zero f z h = absurd h
 Has-joined (suc n) f z h =
     elim (Has-append (joined n f) (f n) z h) [
-      | inl k ↦ let r = Has-joined n f z k in let below : r.0 < n = r.1 in (r.0, omega arith, r.2)
-      | inr k ↦ (n, omega arith, k)
+      | inl before ↦ let r = Has-joined n f z before in let below : r.0 < n = r.1 in (r.0, omega arith, r.2)
+      | inr last ↦ (n, omega arith, last)
     ]
 
 -- where a member stands
@@ -67,10 +67,6 @@ place_has [] i d lt = absurd (omega arith)
 place_has (x ∷ xs) zero d lt = inl refl
 place_has (x ∷ xs) (suc i) d lt = inr (place_has xs i d (omega arith))
 
--- what holds of all elements holds of a member
-pub All-Has : {X : Type 0} (P : X → Type 0) (xs : List X) (x : X) → All P xs → Has xs x → P x
-All-Has P xs x h has = let r = Has_place xs x x has in subst P r.2 (h r.0 x r.1)
-
 -- ---- what holds of each member
 
 -- P holds of each member of the list
@@ -83,7 +79,7 @@ each_nil P x has = absurd has
 
 -- of a list with one more element
 pub each_cons : {X : Type 0} (P : X → Type 0) (x : X) (xs : List X) → P x → Each P xs → Each P (x ∷ xs)
-each_cons P x xs p q y has = elim has [ inl e ↦ subst P e p | inr k ↦ q y k ]
+each_cons P x xs p q y has = elim has [ inl e ↦ subst P e p | inr later ↦ q y later ]
 
 -- of one element
 pub each_one : {X : Type 0} (P : X → Type 0) (x : X) → P x → Each P (x ∷ [])
@@ -91,7 +87,7 @@ each_one P x p = each_cons P x [] p (each_nil P)
 
 -- of two lists
 pub each_append : {X : Type 0} (P : X → Type 0) (xs ys : List X) → Each P xs → Each P ys → Each P (xs ++ ys)
-each_append P xs ys p q z has = elim (Has-append xs ys z has) [ inl k ↦ p z k | inr k ↦ q z k ]
+each_append P xs ys p q z has = elim (Has-append xs ys z has) [ inl first ↦ p z first | inr second ↦ q z second ]
 
 -- of the images of a list
 pub each_map : {X Y : Type 0} (P : Y → Type 0) (g : X → Y) (xs : List X) → ((x : X) → Has xs x → P (g x)) → Each P (map g xs)

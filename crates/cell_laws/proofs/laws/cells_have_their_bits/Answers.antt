@@ -2,9 +2,9 @@ use Rattle.cell_laws.proofs.CellsLemmas.{some_wiring, cells-outputs, cells-wired
 use Rattle.cell_laws.proofs.laws.cells_have_their_bits.Goals as goal
 
 pub returns-clause-cells : goal.returns-clause-cells
-returns-clause-cells c k l x a h of bits n lt =
-    let w = some_wiring k x h in (w.0, w.1, cells-wired k l x a w.0 h of w.1 bits n lt)
+returns-clause-cells c config cells x a h of bits n lt =
+    let w = some_wiring config x h in (w.0, w.1, cells-wired config cells x a w.0 h of w.1 bits n lt)
 
 pub returns-clause-outputs : goal.returns-clause-outputs
-returns-clause-outputs c k l x a h of bits =
-    let w = some_wiring k x h in (w.0, w.1, cells-outputs k l x a w.0 h of w.1 bits)
+returns-clause-outputs c config cells x a h of bits =
+    let w = some_wiring config x h in (w.0, w.1, cells-outputs config cells x a w.0 h of w.1 bits)

@@ -5,7 +5,7 @@ pub returns-clause-clauses : goal.returns-clause-clauses
 returns-clause-clauses c = clauses-IsClause
 
 pub returns-clause-within : goal.returns-clause-within
-returns-clause-within c net l n d has m in_d = (clauses-range net l n d has m in_d).1
+returns-clause-within c net cells n d has m in_d = (clauses-range net cells n d has m in_d).1
 
 pub returns-clause-variables : goal.returns-clause-variables
 returns-clause-variables c = variable_count-le

@@ -97,10 +97,12 @@ inputs-IsDraft at d (n ∷ ns) e h w k =
     let b = bind_ok (with_input at d n) (λ x. with_inputs at x ns) e k in
     inputs-IsDraft at b.0 ns e (input-IsDraft at d n b.0 h w.0 b.1) w.1 b.2
 
+-- a name that isn't among distinct names leaves them distinct
 distinct_push : (names : List (List ℕ)) (name : List ℕ) → IsDistinct bytes_eq names → is_among name names ≡ false → IsDistinct bytes_eq (names ++ name ∷ [])
 distinct_push names name d fresh =
     distinct_insert names [] name (subst (λ (ns : List (List ℕ)). IsDistinct bytes_eq ns) (sym (append-nil names)) d) (ap (is_among name) (append-nil names) ∙ fresh)
 
+-- and with an output more
 output-IsDraft : (at : ℕ) (d : Draft) (name : List ℕ) (e : Draft) → IsDraft d → IsWord name → with_output at d name ≡ Ok e → IsDraft e
 output-IsDraft at d name e h w k =
     let fresh = unless_ok (is_among name d.outputs) (RepeatedOutput at) _ e k in
@@ -123,6 +125,7 @@ output-IsDraft at d name e h w k =
     below : (n m : ℕ) → nat_lt n m ≡ true → n < m
     below n m e = grind (arith, nat_tests)
 
+-- and with the outputs of a line
 outputs-IsDraft : (at : ℕ) (d : Draft) (names : List (List ℕ)) (e : Draft) → IsDraft d → AllByRecursion IsWord names → with_outputs at d names ≡ Ok e → IsDraft e
 outputs-IsDraft at d [] e h w k = subst IsDraft (ok_is d e k) h
 outputs-IsDraft at d (n ∷ ns) e h w k =
@@ -147,10 +150,12 @@ with_covers d covers current h all within differ = record {
   signals_differ = differ;
 }
 
+-- the output of the last cover is the last signal
 signals_push : (inputs : List (List ℕ)) (covers : List CoverValue) (c : CoverValue) → signals_of inputs (covers ++ c ∷ []) ≡ signals_of inputs covers ++ c.out ∷ []
 signals_push inputs covers c =
     ap (λ (ns : List (List ℕ)). inputs ++ ns) (map_push (λ d. d.out) covers c) ∙ sym (append_assoc inputs (map (λ d. d.out) covers) (c.out ∷ []))
 
+-- and with a cover that is opened
 cover-IsDraft : (at : ℕ) (d : Draft) (ins : List (List ℕ)) (out : List ℕ) (e : Draft) → d.current ≡ None → IsDraft d → AllByRecursion IsWord ins → IsWord out
     → with_cover at d ins out ≡ Ok e → IsDraft e
 cover-IsDraft at d ins out e none h w o k =
@@ -177,9 +182,11 @@ cover-IsDraft at d ins out e none h w o k =
     not_below : (n m : ℕ) → nat_lt n m ≡ false → m ≤ n
     not_below n m e = grind (arith, nat_tests)
 
+-- a count that isn't 0 is above it
 some_there : (n : ℕ) → (n == 0) ≡ false → 0 < n
 some_there n e = grind (arith, nat_tests)
 
+-- a line that opens a cover keeps the draft within the limits
 names-IsDraft : (at : ℕ) (d : Draft) (names : List (List ℕ)) (e : Draft) → d.current ≡ None → IsDraft d → AllByRecursion IsWord names → with_names at d names ≡ Ok e → IsDraft e
 names-IsDraft at d names e none h w k =
     let some = unless_ok (length names == 0) (Syntax at) _ e k in
@@ -190,6 +197,7 @@ names-IsDraft at d names e none h w k =
 
 -- ---- the other lines
 
+-- a draft within the limits may take another word as its model's name
 named-IsDraft : (d : Draft) (name : List ℕ) → IsDraft d → (name ≡ []) ⊎ IsWord name → IsDraft (record d { model = name })
 named-IsDraft d name h w = record {
   model = w;
@@ -203,6 +211,7 @@ named-IsDraft d name h w = record {
   signals_differ = h.signals_differ;
 }
 
+-- and be marked as begun or ended
 marked-IsDraft : (d : Draft) (begun ended : Bool) → IsDraft d → IsDraft (record d { begun = begun; ended = ended })
 marked-IsDraft d begun ended h = record {
   model = h.model;
@@ -216,16 +225,19 @@ marked-IsDraft d begun ended h = record {
   signals_differ = h.signals_differ;
 }
 
+-- the first of some words is a word, and of none nothing
 first_name : (names : List (List ℕ)) → AllByRecursion IsWord names → (get_or names 0 [] ≡ []) ⊎ IsWord (get_or names 0 [])
 first_name [] w = inl refl
 first_name (n ∷ ns) w = inr w.0
 
+-- the line of the model keeps the draft within the limits
 model-IsDraft : (at : ℕ) (d : Draft) (names : List (List ℕ)) (e : Draft) → IsDraft d → AllByRecursion IsWord names → with_model at d names ≡ Ok e → IsDraft e
 model-IsDraft at d names e h w k =
     let early = unless_ok d.begun (Unsupported at) _ e k in
     let one = passed (nat_le (length names) 1) (Syntax at) (Ok (record d { model = get_or names 0 [] })) e early.1 in
     subst IsDraft (ok_is (record d { model = get_or names 0 [] }) e one.1) (named-IsDraft d (get_or names 0 []) h (first_name names w))
 
+-- so does the line that ends it
 end-IsDraft : (at : ℕ) (d : Draft) (names : List (List ℕ)) (e : Draft) → IsDraft d → with_end at d names ≡ Ok e → IsDraft e
 end-IsDraft at d names e h k =
     let none = passed (length names == 0) (Syntax at) (Ok (record d { ended = true })) e k in
@@ -233,14 +245,17 @@ end-IsDraft at d names e h k =
 
 -- ---- rows
 
+-- a list with a last element has an element
 never_empty : {X : Type 0} (xs : List X) (x : X) → xs ++ x ∷ [] ≡ [] → ⊥
 never_empty [] x e = cc
 never_empty (y ∷ ys) x e = cc
 
+-- a cover with a row more is a cover for the same signal
 record IsRowOn (c e : CoverValue) : Type 0 where
   cover : IsCover e
   out : e.out ≡ c.out
 
+-- a row that is taken leaves a cover, for the same signal
 row_on : (at : ℕ) (c : CoverValue) (row : Option (List ℕ × List ℕ)) (e : CoverValue) → IsCover c → row_onto at c row ≡ Ok e → IsRowOn c e
 row_on at c None e h k = absurd cc
 row_on at c (Some row) e h k =
@@ -264,6 +279,7 @@ row_on at c (Some row) e h k =
     equal : (n m : ℕ) → (n == m) ≡ true → n ≡ m
     equal n m e = grind (arith, nat_tests)
 
+-- a row of the open cover keeps the draft within the limits
 row-IsDraft_by : (at : ℕ) (d : Draft) (o : Option CoverValue) (row : List (List ℕ)) (e : Draft) → d.current ≡ o → IsDraft d → with_row_line at d o row ≡ Ok e → IsDraft e
 row-IsDraft_by at d None row e is h k = absurd cc
 row-IsDraft_by at d (Some c) row e is h k =
@@ -282,6 +298,7 @@ row-IsDraft_by at d (Some c) row e is h k =
 
 -- ---- all lines
 
+-- so does a line of each kind
 line-IsDraft : (kind : LineKind) (at : ℕ) (d : Draft) (first : List ℕ) (names : List (List ℕ)) (e : Draft) → IsDraft d → AllByRecursion IsWord names → with_line kind at d first names ≡ Ok e → IsDraft e
 line-IsDraft Model at d first names e h w k = model-IsDraft at (closed d) names e (closed-IsDraft d h) w k
 line-IsDraft Inputs at d first names e h w k = inputs-IsDraft at (closed d) names e (closed-IsDraft d h) w k
@@ -291,12 +308,14 @@ line-IsDraft End at d first names e h w k = end-IsDraft at (closed d) names e (c
 line-IsDraft Other at d first names e h w k = absurd cc
 line-IsDraft Row at d first names e h w k = row-IsDraft_by at d d.current (first ∷ names) e refl h k
 
+-- the words of a line without a strange byte are words
 sound_words : (ws : List (List ℕ)) → AllByRecursion IsRaw ws → list_all is_sound ws ≡ true → AllByRecursion IsWord ws
 sound_words [] h e = tt
 sound_words (w ∷ ws) h e =
     let s = both (is_sound w) (list_all is_sound ws) e in
     (record { some = h.0.some; sound = s.0; uncommented = h.0.plain_bytes }, sound_words ws h.1 s.1)
 
+-- the words of a line keep the draft within the limits
 words-IsDraft : (at : ℕ) (d : Draft) (ws : List (List ℕ)) (e : Draft) → IsDraft d → AllByRecursion IsRaw ws → with_words at d ws ≡ Ok e → IsDraft e
 words-IsDraft at d [] e h w k = subst IsDraft (ok_is d e k) h
 words-IsDraft at d (first ∷ names) e h w k =
@@ -306,10 +325,12 @@ words-IsDraft at d (first ∷ names) e h w k =
     let all = sound_words (first ∷ names) w sound.0 in
     subst IsDraft (ok_is (begun_with b.0) e b.2) (marked-IsDraft b.0 true b.0.ended (line-IsDraft (kind_of first) at d first names b.0 h all.1 b.1))
 
+-- so do lines one after the other
 lines-IsDraft : (d : Draft) (ss : List Statement) (e : Draft) → IsDraft d → AllByRecursion HasRawWords ss → Follows d ss e → IsDraft e
 lines-IsDraft d [] e h w k = subst IsDraft k h
 lines-IsDraft d (s ∷ ss) e h w k = lines-IsDraft k.0 ss e (words-IsDraft s.at d s.words k.0 h w.0 k.1) w.1 k.2
 
+-- where there are outputs, there is at least one
 outputs_there : (outputs : List (List ℕ)) → outputs ≢ [] → 1 ≤ length outputs
 outputs_there [] h = absurd (h refl)
 outputs_there (o ∷ os) h = omega arith

@@ -88,16 +88,19 @@ stops d (s ∷ ss) fault e = stops_by (with_words s.at d s.words) d s ss fault r
 
 -- ---- whole texts
 
+-- a text that isn't too long is read line by line, and then finished
 reading-short : (text : List ℕ) → length text ≤ MAX_BYTES → reading text ≡ (with_statements start (statements text) >>= λ d. finished d)
 reading-short text h =
     let short : nat_le (length text) MAX_BYTES ≡ true = grind (arith, nat_tests) in
     rw short refl
 
+-- a text that is too long is read as that fault
 reading-long : (text : List ℕ) → MAX_BYTES < length text → reading text ≡ Err TooLong
 reading-long text h =
     let long : nat_le (length text) MAX_BYTES ≡ false = grind (arith, nat_tests) in
     rw long refl
 
+-- a draft with outputs is finished as its value
 finished-some : (d : Draft) → d.outputs ≢ [] → finished d ≡ Ok (value_of d)
 finished-some d h = by d.outputs h
   where
@@ -107,9 +110,11 @@ finished-some d h = by d.outputs h
         let some : (length (o ∷ os) == 0) ≡ false = grind (arith, nat_tests) in
         rw some refl
 
+-- one without outputs lacks them
 finished-none : (d : Draft) → d.outputs ≡ [] → finished d ≡ Err NoOutputs
 finished-none d h = ap (λ (outputs : List (List ℕ)). cond (length outputs == 0) (Err NoOutputs) (ok (value_of d))) h
 
+-- no test comes out both ways
 apart : (b : Bool) → b ≡ true → b ≡ false → ⊥
 apart b e f = cc
 
@@ -119,6 +124,7 @@ some_outputs d m h =
     let k = unless_ok (length d.outputs == 0) NoOutputs (Ok (value_of d)) m h in
     (λ (e : d.outputs ≡ []). apart (length d.outputs == 0) (ap (λ (outputs : List (List ℕ)). length outputs == 0) e) k.0, ok_is (value_of d) m k.1)
 
+-- what lacks outputs has none, and has no other fault
 no_outputs_by : (outputs : List (List ℕ)) (m : BlifValue) (fault : BlifError) → cond (length outputs == 0) (Err NoOutputs) (ok m) ≡ Err fault → (outputs ≡ []) × (fault ≡ NoOutputs)
 no_outputs_by [] m fault e = (refl, cc)
 no_outputs_by (o ∷ os) m fault e =

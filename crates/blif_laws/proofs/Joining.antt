@@ -8,6 +8,7 @@ use Rattle.blif_laws.proofs.LineLemmas.{plain_words, words_by, words-is}
 
 -- ---- words on both sides of a blank
 
+-- a byte in front of a line goes to its first words, whatever words stand behind them
 words_by-append : (blank starts : Bool) (b : ℕ) (ws vs : List (List ℕ)) → (starts ≡ true → (w : List ℕ) × (rest : List (List ℕ)) × (ws ≡ w ∷ rest))
     → words_by blank starts b (ws ++ vs) ≡ words_by blank starts b ws ++ vs
 words_by-append true starts b ws vs some = refl
@@ -16,10 +17,12 @@ words_by-append false true b ws vs some =
     let s = some refl in
     rw s.2 refl
 
+-- what isn't blank is a sign
 sign_of : (blank : Bool) → not blank ≡ true → blank ≡ false
 sign_of true h = absurd cc
 sign_of false h = refl
 
+-- a byte that isn't blank begins a word
 some_by : (b : ℕ) (starts : Bool) (ws : List (List ℕ)) → is_blank b ≡ false → (w : List ℕ) × (rest : List (List ℕ)) × (words_by (is_blank b) starts b ws ≡ w ∷ rest)
 some_by b true [] e = (b ∷ [], [], ap (λ (blank : Bool). words_by blank true b []) e)
 some_by b true (w ∷ ws) e = (b ∷ w, ws, ap (λ (blank : Bool). words_by blank true b (w ∷ ws)) e)
@@ -30,10 +33,12 @@ plain_words-some : (line : List ℕ) → begins_with_token is_blank line ≡ tru
 plain_words-some [] h = absurd cc
 plain_words-some (b ∷ bs) h = some_by b (begins_with_token is_blank bs) (plain_words bs) (sign_of (is_blank b) h)
 
+-- what stands behind a space doesn't change how the line begins
 begins-append : (line more : List ℕ) → begins_with_token is_blank (line ++ 32 ∷ more) ≡ begins_with_token is_blank line
 begins-append [] more = refl
 begins-append (b ∷ bs) more = refl
 
+-- a space between two lines parts their words
 plain_words-append : (line more : List ℕ) → plain_words (line ++ 32 ∷ more) ≡ plain_words line ++ plain_words more
 plain_words-append [] more = refl
 plain_words-append (b ∷ bs) more =
@@ -93,6 +98,7 @@ joined_some_by true at bytes [] = (record { at = at; bytes = bytes }, [], refl)
 joined_some_by true at bytes (n ∷ ns) = (record { at = at; bytes = bytes ++ 32 ∷ n.bytes }, ns, refl)
 joined_some_by false at bytes after = (record { at = at; bytes = bytes }, after, refl)
 
+-- the words of a line that joins the next stand behind those that are pending
 joined_by : (first : ℕ) (pending : List (List ℕ)) (at : ℕ) (bytes : List ℕ) (n : Line) (ns : List Line)
     → put_in_front first pending (map statement_of (joined_to at bytes (n ∷ ns))) ≡ put_in_front first (pending ++ words bytes) (map statement_of (n ∷ ns))
 joined_by first pending at bytes n ns =

@@ -39,6 +39,7 @@ abbrev pub put_first : ℕ → List (List ℕ) → List (List ℕ)
 put_first b [] = (b ∷ []) ∷ []
 put_first b (w ∷ ws) = (b ∷ w) ∷ ws
 
+-- a token that is lengthened in front has one byte more
 bytes_of-lengthened : (at b : ℕ) (ts : List Token) → bytes_of (lengthened at b ts) ≡ put_first b (bytes_of ts)
 bytes_of-lengthened at b [] = refl
 bytes_of-lengthened at b (t ∷ ts) = refl
@@ -54,6 +55,7 @@ abbrev pub plain_words : List ℕ → List (List ℕ)
 plain_words [] = []
 plain_words (b ∷ bs) = words_by (is_blank b) (begins_with_token is_blank bs) b (plain_words bs)
 
+-- the tokens of a line are its words
 bytes_of-tokens : (at : ℕ) (line : List ℕ) → bytes_of (tokens is_blank at line) ≡ plain_words line
 bytes_of-tokens at [] = refl
 bytes_of-tokens at (b ∷ bs) = one at b bs (is_blank b) refl (begins_with_token is_blank bs) refl (bytes_of-tokens (at + 1) bs)
@@ -68,6 +70,7 @@ bytes_of-tokens at (b ∷ bs) = one at b bs (is_blank b) refl (begins_with_token
 pub words-is : (line : List ℕ) → words line ≡ plain_words line
 words-is line = bytes_of-tokens 0 line
 
+-- a blank in front of a line adds no word
 plain_words-blank : (b : ℕ) (bs : List ℕ) → is_blank b ≡ true → plain_words (b ∷ bs) ≡ plain_words bs
 plain_words-blank b bs h = rw h refl
 
@@ -75,11 +78,13 @@ plain_words-blank b bs h = rw h refl
 abbrev first_and_rest : ℕ → ℕ → List ℕ → List (List ℕ)
 first_and_rest b n bs = (b ∷ take n bs) ∷ plain_words (drop n bs)
 
+-- a byte before a blank is a word of its own
 word_before_blank : (b c : ℕ) (cs : List ℕ) → is_blank b ≡ false → is_blank c ≡ true
     → plain_words (b ∷ c ∷ cs) ≡ first_and_rest b (position_or_len is_blank (c ∷ cs)) (c ∷ cs)
 word_before_blank b c cs h e =
     rw (h, e) (ap (λ (ws : List (List ℕ)). (b ∷ []) ∷ ws) (sym (plain_words-blank c cs e)))
 
+-- a byte before a sign lengthens the word behind it
 word_goes_on : (b c : ℕ) (cs : List ℕ) → is_blank b ≡ false → is_blank c ≡ false
     → plain_words (c ∷ cs) ≡ first_and_rest c (position_or_len is_blank cs) cs
     → plain_words (b ∷ c ∷ cs) ≡ first_and_rest b (position_or_len is_blank (c ∷ cs)) (c ∷ cs)
@@ -88,6 +93,7 @@ word_goes_on b c cs h e ih =
     let ih : words_by false (begins_with_token is_blank cs) c (plain_words cs) ≡ first_and_rest c (position_or_len is_blank cs) cs = rw e at ih in
     rw (h, e) (rw s (ap (put_first b) ih))
 
+-- a line that begins with a sign has the word up to the next blank as its first
 plain_words-word : (b : ℕ) (bs : List ℕ) → is_blank b ≡ false → plain_words (b ∷ bs) ≡ first_and_rest b (position_or_len is_blank bs) bs
 plain_words-word b [] h = rw h refl
 plain_words-word b (c ∷ cs) h =

@@ -26,6 +26,7 @@ pub record EndsPlain (line : List ℕ) : Type 0 where
 
 -- ---- what is cut off from a line that ends so: nothing
 
+-- a line ends with its last byte
 ends_with-push : (c : ℕ) (front : List ℕ) (b : ℕ) → ends_with c (front ++ b ∷ []) ≡ (b == c)
 ends_with-push c front b =
     let len : length (front ++ b ∷ []) ≡ length front + 1 = length-append front (b ∷ []) in
@@ -33,12 +34,15 @@ ends_with-push c front b =
     let some : nat_lt 0 (length (front ++ b ∷ [])) ≡ true = grind (arith, nat_tests) in
     rw (some, last, get_or-append_seam front b [] 0) refl
 
+-- a sign is no carriage return
 not_return : (b : ℕ) → is_sign b ≡ true → (b == 13) ≡ false
 not_return b h = grind (arith, nat_tests)
 
+-- a sign is no blank
 not_blank : (b : ℕ) → is_sign b ≡ true → is_blank b ≡ false
 not_blank b h = grind (arith, nat_tests)
 
+-- a line without a comment sign is cut nowhere
 uncut : (bytes : List ℕ) → ArePlain bytes → without_comment bytes ≡ bytes
 uncut [] h = refl
 uncut (b ∷ bs) h =
@@ -67,6 +71,7 @@ content-plain line h e =
 
 -- ---- the words of a printed line
 
+-- signs in a row are one word
 single_word : (b : ℕ) (bs : List ℕ) → list_all is_sign (b ∷ bs) ≡ true → plain_words (b ∷ bs) ≡ (b ∷ bs) ∷ []
 single_word b [] h =
     let p = both (is_sign b) true h in
@@ -101,10 +106,12 @@ some_bytes : (w : List ℕ) → w ≢ [] → 0 < length w
 some_bytes [] h = absurd (h refl)
 some_bytes (b ∷ bs) h = omega arith
 
+-- a test whose opposite holds is false
 falsified : (b : Bool) → not b ≡ true → b ≡ false
 falsified true e = absurd cc
 falsified false e = refl
 
+-- a word ends with a plain byte
 ends-word : (w : List ℕ) → IsWord w → EndsPlain w
 ends-word w h =
     let lt = some_bytes w h.some in
@@ -139,9 +146,11 @@ ends-line_bytes w (v ∷ vs) h =
 abbrev pub is_feed : ℕ → Bool
 is_feed b = b == 10
 
+-- the byte ends no line
 abbrev NotFeed : ℕ → Type 0
 NotFeed b = is_feed b ≡ false
 
+-- a sign ends no line
 not_feed : (b : ℕ) → is_sign b ≡ true → is_feed b ≡ false
 not_feed b h = grind (arith, nat_tests)
 
@@ -150,12 +159,14 @@ split_line : (line rest : List ℕ) → AllByRecursion NotFeed line → slice_sp
 split_line [] rest h = refl
 split_line (b ∷ bs) rest h = rw (h.0, split_line bs rest h.1) refl
 
+-- signs have no end of a line among them
 no_feeds : (w : List ℕ) → list_all is_sign w ≡ true → AllByRecursion NotFeed w
 no_feeds [] h = tt
 no_feeds (b ∷ bs) h =
     let p = both (is_sign b) (list_all is_sign bs) h in
     (not_feed b p.0, no_feeds bs p.1)
 
+-- the bytes of a word are signs
 word_signs : (w : List ℕ) → IsWord w → list_all is_sign w ≡ true
 word_signs w h = (both (list_all is_sign w) (not (ends_with 92 w)) h.sound).0
 

@@ -35,10 +35,12 @@ abbrev pub Leads : ℕ → Draft → List (List (List ℕ)) → Draft → Type 0
 Leads at d [] e = d ≡ e
 Leads at d (line ∷ lines) e = (n : Draft) × (with_words at d line ≡ Ok n) × Leads (at + 1) n lines e
 
+-- lines lead on from where the lines before them led
 Leads-append : (at : ℕ) (d : Draft) (xs ys : List (List (List ℕ))) (e f : Draft) → Leads at d xs e → ((at : ℕ) → Leads at e ys f) → Leads at d (xs ++ ys) f
 Leads-append at d [] ys e f h k = subst (λ (x : Draft). Leads at x ys f) (sym h) (k at)
 Leads-append at d (x ∷ xs) ys e f h k = (h.0, h.1, Leads-append (at + 1) h.0 xs ys e f h.2 k)
 
+-- lines with their numbers are followed where the lines lead
 Follows-numbered : (at : ℕ) (d : Draft) (lines : List (List (List ℕ))) (e : Draft) → Leads at d lines e → Follows d (numbered at lines) e
 Follows-numbered at d [] e h = (d, refl, h)
 Follows-numbered at d (line ∷ lines) e h = (h.0, h.1, Follows-numbered (at + 1) h.0 lines e h.2)
@@ -48,10 +50,12 @@ abbrev draft : List ℕ → List (List ℕ) → List (List ℕ) → List CoverVa
 draft model inputs outputs covers current begun =
     record { model = model; inputs = inputs; outputs = outputs; covers = covers; current = current; begun = begun; ended = false }
 
+-- words have no strange byte
 sound_all : (ws : List (List ℕ)) → AllByRecursion IsWord ws → list_all is_sound ws ≡ true
 sound_all [] h = refl
 sound_all (w ∷ ws) h = and (is_sound w) (list_all is_sound ws) h.0.sound (sound_all ws h.1)
 
+-- words without a strange byte before the end are taken by their kind
 by_tests : (sound ended : Bool) (f g : BlifError) (r : Result Draft BlifError) → sound ≡ true → ended ≡ false → cond sound (cond ended (Err f) r) (Err g) ≡ r
 by_tests true false f g r e h = refl
 by_tests true true f g r e h = absurd cc
@@ -67,15 +71,18 @@ run_line at d first names kind e words before is h =
 
 -- ---- names
 
+-- a name of distinct ones isn't among those before it
 absent_before : (xs : List (List ℕ)) (name : List ℕ) (ys : List (List ℕ)) → IsDistinct bytes_eq (xs ++ name ∷ ys) → is_among name xs ≡ false
 absent_before [] name ys h = refl
 absent_before (x ∷ xs) name ys h =
     let apart = (All-right (λ n. bytes_eq x n ≡ false) xs (name ∷ ys) (IsDistinct-head bytes_eq x (xs ++ name ∷ ys) h)).0 in
     rw (bytes_eq_comm name x, apart, absent_before xs name ys (IsDistinct-tail bytes_eq x (xs ++ name ∷ ys) h)) refl
 
+-- less is what the test of less says
 below : (n m : ℕ) → n < m → nat_lt n m ≡ true
 below n m h = grind (arith, nat_tests)
 
+-- the next of distinct inputs is taken
 take_input : (at : ℕ) (model : List ℕ) (before : List (List ℕ)) (begun : Bool) (name : List ℕ) (after : List (List ℕ)) → IsDistinct bytes_eq (before ++ name ∷ after)
     → length (before ++ name ∷ after) ≤ MAX_PORTS → with_input at (draft model before [] [] None begun) name ≡ Ok (draft model (before ++ name ∷ []) [] [] None begun)
 take_input at model before begun name after differ within =
@@ -84,6 +91,7 @@ take_input at model before begun name after differ within =
     let count : nat_lt (length before + 0) MAX_SIGNALS ≡ true = below (length before + 0) MAX_SIGNALS (omega (arith, length-append before (name ∷ after))) in
     rw (fresh, ports, count) refl
 
+-- so are all inputs of a line
 take_inputs : (at : ℕ) (model : List ℕ) (before : List (List ℕ)) (begun : Bool) (names : List (List ℕ)) → IsDistinct bytes_eq (before ++ names) → length (before ++ names) ≤ MAX_PORTS
     → with_inputs at (draft model before [] [] None begun) names ≡ Ok (draft model (before ++ names) [] [] None begun)
 take_inputs at model before begun [] differ within = ap (λ (ns : List (List ℕ)). ok (draft model ns [] [] None begun)) (sym (append-nil before))
@@ -93,6 +101,7 @@ take_inputs at model before begun (n ∷ ns) differ within =
     (take_inputs at model (before ++ n ∷ []) begun ns (subst (λ (xs : List (List ℕ)). IsDistinct bytes_eq xs) (sym same) differ) (subst (λ (xs : List (List ℕ)). length xs ≤ MAX_PORTS) (sym same) within)
     ∙ ap (λ (xs : List (List ℕ)). ok (draft model xs [] [] None begun)) same)
 
+-- the next of distinct outputs is taken
 take_output : (at : ℕ) (model : List ℕ) (inputs before : List (List ℕ)) (begun : Bool) (name : List ℕ) (after : List (List ℕ)) → IsDistinct bytes_eq (before ++ name ∷ after)
     → length (before ++ name ∷ after) ≤ MAX_PORTS → with_output at (draft model inputs before [] None begun) name ≡ Ok (draft model inputs (before ++ name ∷ []) [] None begun)
 take_output at model inputs before begun name after differ within =
@@ -100,6 +109,7 @@ take_output at model inputs before begun name after differ within =
     let ports : nat_lt (length before) MAX_PORTS ≡ true = below (length before) MAX_PORTS (omega (arith, length-append before (name ∷ after))) in
     rw (fresh, ports) refl
 
+-- so are all outputs of a line
 take_outputs : (at : ℕ) (model : List ℕ) (inputs before : List (List ℕ)) (begun : Bool) (names : List (List ℕ)) → IsDistinct bytes_eq (before ++ names) → length (before ++ names) ≤ MAX_PORTS
     → with_outputs at (draft model inputs before [] None begun) names ≡ Ok (draft model inputs (before ++ names) [] None begun)
 take_outputs at model inputs before begun [] differ within = ap (λ (ns : List (List ℕ)). ok (draft model inputs ns [] None begun)) (sym (append-nil before))
@@ -111,6 +121,7 @@ take_outputs at model inputs before begun (n ∷ ns) differ within =
 
 -- ---- the first lines
 
+-- the line of the model, if there is one, leads to a draft with its name alone
 pub model_leads : (at : ℕ) (model : List ℕ) → (model ≡ []) ⊎ IsWord model → (begun : Bool) × Leads at start (model_lines model) (draft model [] [] [] None begun)
 model_leads at [] h = (false, refl)
 model_leads at (b ∷ bs) h =
@@ -120,6 +131,7 @@ model_leads at (b ∷ bs) h =
     never : (b : ℕ) (bs : List ℕ) → (b ∷ bs) ≡ [] → ⊥
     never b bs e = cc
 
+-- the line of the inputs, if there is one, leads to a draft with them
 inputs_lead : (at : ℕ) (model : List ℕ) (begun : Bool) (inputs : List (List ℕ)) → AllByRecursion IsWord inputs → IsDistinct bytes_eq inputs → length inputs ≤ MAX_PORTS
     → (begun' : Bool) × Leads at (draft model [] [] [] None begun) (input_lines inputs) (draft model inputs [] [] None begun')
 inputs_lead at model begun [] words differ within = (begun, refl)
@@ -132,6 +144,7 @@ inputs_lead at model begun (n ∷ ns) words differ within = (
   ),
 )
 
+-- the line of the outputs leads to a draft with them
 outputs_lead : (at : ℕ) (model : List ℕ) (inputs : List (List ℕ)) (begun : Bool) (outputs : List (List ℕ)) → AllByRecursion IsWord outputs → IsDistinct bytes_eq outputs → length outputs ≤ MAX_PORTS
     → with_words at (draft model inputs [] [] None begun) (codes ".outputs" ∷ outputs) ≡ Ok (draft model inputs outputs [] None true)
 outputs_lead at model inputs begun outputs words differ within =
@@ -139,28 +152,34 @@ outputs_lead at model inputs begun outputs words differ within =
 
 -- ---- the rows of a cover
 
+-- the byte of a mark is one that a row may have
 mark_mark : (m : Mark) → is_mark (mark_byte m) ≡ true
 mark_mark Zero = refl
 mark_mark One = refl
 mark_mark Any = refl
 
+-- so are those of the marks of a row
 marks_mark : (ms : List Mark) → list_all is_mark (map mark_byte ms) ≡ true
 marks_mark [] = refl
 marks_mark (m ∷ ms) = and (is_mark (mark_byte m)) (list_all is_mark (map mark_byte ms)) (mark_mark m) (marks_mark ms)
 
+-- the byte of a mark is read as that mark
 mark_again : (m : Mark) → mark_of (mark_byte m) ≡ m
 mark_again Zero = refl
 mark_again One = refl
 mark_again Any = refl
 
+-- so are those of the marks of a row
 marks_again : (ms : List Mark) → map mark_of (map mark_byte ms) ≡ ms
 marks_again [] = refl
 marks_again (m ∷ ms) = ap (λ (x : Mark). x ∷ map mark_of (map mark_byte ms)) (mark_again m) ∙ ap (λ (xs : List Mark). m ∷ xs) (marks_again ms)
 
+-- the word of a sign is one that a row may end with
 bit_is_bit : (on : Bool) → is_bit (bit_word on) ≡ true
 bit_is_bit false = refl
 bit_is_bit true = refl
 
+-- the word of a sign is read as that sign
 bit_again : (on : Bool) → bit_of (bit_word on) ≡ on
 bit_again false = refl
 bit_again true = refl
@@ -169,12 +188,15 @@ bit_again true = refl
 abbrev opened : CoverValue → Bool → List (List Mark) → CoverValue
 opened c on rows = record { ins = c.ins; out = c.out; on = on; rows = rows }
 
+-- a count that is 0 passes the test for it
 none_of : (n : ℕ) → n ≡ 0 → (n == 0) ≡ true
 none_of n h = grind (arith, nat_tests)
 
+-- a count of one or more doesn't
 some_of : (n : ℕ) → (suc n == 0) ≡ false
 some_of n = grind (arith, nat_tests)
 
+-- equal numbers pass the test of equality
 equal_to : (n m : ℕ) → n ≡ m → (n == m) ≡ true
 equal_to n m h = grind (arith, nat_tests)
 
@@ -185,19 +207,23 @@ parts_again inputs on (m ∷ ms) h =
     let e : (inputs == 0) ≡ false = ap (λ (n : ℕ). n == 0) (sym h) ∙ some_of (length ms) in
     rw e refl
 
+-- a cover takes its own sign where its rows have it
 same_output : (on : Bool) → cond on on (not on) ≡ true
 same_output true = refl
 same_output false = refl
 
+-- one true test of two is enough
 either_true : (a b : Bool) → b ≡ true → (a || b) ≡ true
 either_true true b h = refl
 either_true false b h = h
 
+-- a row with the cover's sign agrees with the rows before it
 agrees_again : (c : CoverValue) (on : Bool) (rows : List (List Mark)) → (rows ≡ []) ⊎ (on ≡ c.on) → agrees (opened c on rows) c.on ≡ true
 agrees_again c on rows h =
     ⊎_elim (λ (e : rows ≡ []). ap (λ (rs : List (List Mark)). (length rs == 0) || cond c.on on (not on)) e)
     (λ (e : on ≡ c.on). either_true (length rows == 0) (cond c.on on (not on)) (ap (λ (b : Bool). cond c.on b (not b)) e ∙ same_output c.on)) h
 
+-- the words of a row are read as that row, behind those before it
 row_again : (at : ℕ) (c : CoverValue) (on : Bool) (rows : List (List Mark)) (row : List Mark) → length row ≡ length c.ins → (rows ≡ []) ⊎ (on ≡ c.on)
     → row_onto at (opened c on rows) (row_parts (length c.ins) (row_words c.on row)) ≡ Ok (opened c c.on (rows ++ row ∷ []))
 row_again at c on rows row len h =
@@ -223,6 +249,7 @@ row_kind_marks Zero ms = refl
 row_kind_marks One ms = refl
 row_kind_marks Any ms = refl
 
+-- the word of a sign alone is a row
 row_kind_bit : (on : Bool) → kind_of (bit_word on) ≡ Row
 row_kind_bit false = refl
 row_kind_bit true = refl
@@ -292,18 +319,21 @@ abbrev end_of : List CoverValue → Option CoverValue → List CoverValue → Li
 end_of covers current [] = (covers, current)
 end_of covers current (c ∷ cs) = end_of (covers ++ option_to_list current) (Some c) cs
 
+-- the covers after these lines are those before, and then the covers of the lines
 end_of-all : (covers : List CoverValue) (current : Option CoverValue) (rest : List CoverValue)
     → (end_of covers current rest).0 ++ option_to_list (end_of covers current rest).1 ≡ (covers ++ option_to_list current) ++ rest
 end_of-all covers current [] = sym (append-nil (covers ++ option_to_list current))
 end_of-all covers current (c ∷ cs) =
     end_of-all (covers ++ option_to_list current) (Some c) cs ∙ append_assoc (covers ++ option_to_list current) (c ∷ []) cs
 
+-- the signals are those up to a cover, its output, and the outputs behind it
 signals_split : (inputs : List (List ℕ)) (before : List CoverValue) (c : CoverValue) (after : List CoverValue)
     → signals_of inputs (before ++ c ∷ after) ≡ signals_of inputs before ++ c.out ∷ map (λ d. d.out) after
 signals_split inputs before c after =
     ap (λ (ns : List (List ℕ)). inputs ++ ns) (map-append (λ d. d.out) before (c ∷ after))
     ∙ sym (append_assoc inputs (map (λ d. d.out) before) (c.out ∷ map (λ d. d.out) after))
 
+-- the lines of covers lead to a draft with them
 covers_lead : (at : ℕ) (model : List ℕ) (inputs outputs : List (List ℕ)) (covers : List CoverValue) (current : Option CoverValue) (rest : List CoverValue) → AllByRecursion IsCover rest
     → IsDistinct bytes_eq (signals_of inputs ((covers ++ option_to_list current) ++ rest)) → length inputs + length ((covers ++ option_to_list current) ++ rest) ≤ MAX_SIGNALS
     → Leads at (draft model inputs outputs covers current true) (flat_map cover_lines rest) (draft model inputs outputs (end_of covers current rest).0 (end_of covers current rest).1 true)
@@ -327,23 +357,28 @@ covers_lead at model inputs outputs covers current (c ∷ cs) h differ within =
 
 -- ---- the whole
 
+-- no names are distinct
 nothing_twice : IsDistinct bytes_eq []
 unfolding IsDistinct
 nothing_twice = tt
 
+-- the first of distinct names are distinct
 distinct_left : (xs ys : List (List ℕ)) → IsDistinct bytes_eq (xs ++ ys) → IsDistinct bytes_eq xs
 distinct_left [] ys d = nothing_twice
 distinct_left (x ∷ xs) ys d =
     IsDistinct-cons bytes_eq x xs (All-left (λ n. bytes_eq x n ≡ false) xs ys (IsDistinct-head bytes_eq x (xs ++ ys) d)) (distinct_left xs ys (IsDistinct-tail bytes_eq x (xs ++ ys) d))
 
+-- the inputs of a design are distinct
 distinct_inputs : (m : BlifValue) → IsBlif m → IsDistinct bytes_eq m.inputs
 distinct_inputs m h = distinct_left m.inputs (map (λ c. c.out) m.covers) h.signals_differ
 
+-- the draft of a design before its text ends
 abbrev last_draft : BlifValue → Draft
 last_draft m =
     let e = end_of [] None m.covers in
     record { model = m.model; inputs = m.inputs; outputs = m.outputs; covers = e.0 ++ option_to_list e.1; current = None; begun = true; ended = true }
 
+-- the lines of a design lead to its draft
 all_lead : (m : BlifValue) → IsBlif m → Leads 1 start (blif_lines m) (last_draft m)
 all_lead m h =
     let b = model_leads 1 m.model h.model in
@@ -362,6 +397,7 @@ all_lead m h =
     (λ (at : ℕ). (draft m.model m.inputs m.outputs [] None true, outputs_lead at m.model m.inputs i.0 m.outputs h.outputs h.outputs_differ h.outputs_within, body (at + 1))) in
     Leads-append 1 start (model_lines m.model) (input_lines m.inputs ++ (codes ".outputs" ∷ m.outputs) ∷ (covers ++ end)) (draft m.model [] [] [] None b.0) (last_draft m) b.1 after_model
 
+-- one output or more is some output
 outputs_there : (outputs : List (List ℕ)) → 1 ≤ length outputs → outputs ≢ []
 outputs_there [] h e = absurd (omega arith)
 outputs_there (o ∷ os) h e = cc

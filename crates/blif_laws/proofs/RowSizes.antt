@@ -26,9 +26,11 @@ use Rattle.blif_laws.proofs.TextSizes.{words_size, words_size-cons, statements_s
 abbrev covers_size : List CoverValue → ℕ
 covers_size covers = sum_by (λ (c : CoverValue). rows_size c.rows + 1) covers
 
+-- the size of all covers of a draft
 abbrev draft_size : Draft → ℕ
 draft_size d = covers_size (all_covers d)
 
+-- the size of one cover more
 covers_size-cons : (c : CoverValue) (cs : List CoverValue) → covers_size (c ∷ cs) ≡ rows_size c.rows + 1 + covers_size cs
 covers_size-cons c cs = sum_by-cons (λ (d : CoverValue). rows_size d.rows + 1) c cs
 
@@ -38,36 +40,42 @@ draft_size-parts d = sum_by-append (λ (c : CoverValue). rows_size c.rows + 1) d
 
 -- ---- lines that leave the covers as they are
 
+-- taking an input leaves the covers as they are
 input-covers : (at : ℕ) (d : Draft) (name : List ℕ) (e : Draft) → with_input at d name ≡ Ok e → all_covers d ≡ all_covers e
 input-covers at d name e k =
     let fresh = unless_ok (is_among name (signals d)) (DoubleDriven at) _ e k in
     let room = passed _ (Limit at) (Ok (record d { inputs = d.inputs ++ name ∷ [] })) e fresh.1 in
     ap all_covers (ok_is (record d { inputs = d.inputs ++ name ∷ [] }) e room.1)
 
+-- so do the inputs of a line
 inputs-covers : (at : ℕ) (d : Draft) (names : List (List ℕ)) (e : Draft) → with_inputs at d names ≡ Ok e → all_covers d ≡ all_covers e
 inputs-covers at d [] e k = ap all_covers (ok_is d e k)
 inputs-covers at d (n ∷ ns) e k =
     let b = bind_ok (with_input at d n) (λ x. with_inputs at x ns) e k in
     input-covers at d n b.0 b.1 ∙ inputs-covers at b.0 ns e b.2
 
+-- so does an output
 output-covers : (at : ℕ) (d : Draft) (name : List ℕ) (e : Draft) → with_output at d name ≡ Ok e → all_covers d ≡ all_covers e
 output-covers at d name e k =
     let fresh = unless_ok (is_among name d.outputs) (RepeatedOutput at) _ e k in
     let room = passed (nat_lt (length d.outputs) MAX_PORTS) (Limit at) (Ok (record d { outputs = d.outputs ++ name ∷ [] })) e fresh.1 in
     ap all_covers (ok_is (record d { outputs = d.outputs ++ name ∷ [] }) e room.1)
 
+-- so do the outputs of a line
 outputs-covers : (at : ℕ) (d : Draft) (names : List (List ℕ)) (e : Draft) → with_outputs at d names ≡ Ok e → all_covers d ≡ all_covers e
 outputs-covers at d [] e k = ap all_covers (ok_is d e k)
 outputs-covers at d (n ∷ ns) e k =
     let b = bind_ok (with_output at d n) (λ x. with_outputs at x ns) e k in
     output-covers at d n b.0 b.1 ∙ outputs-covers at b.0 ns e b.2
 
+-- so does the line of the model
 model-covers : (at : ℕ) (d : Draft) (names : List (List ℕ)) (e : Draft) → with_model at d names ≡ Ok e → all_covers d ≡ all_covers e
 model-covers at d names e k =
     let early = unless_ok d.begun (Unsupported at) _ e k in
     let one = passed (nat_le (length names) 1) (Syntax at) (Ok (record d { model = get_or names 0 [] })) e early.1 in
     ap all_covers (ok_is (record d { model = get_or names 0 [] }) e one.1)
 
+-- so does the line that ends it
 end-covers : (at : ℕ) (d : Draft) (names : List (List ℕ)) (e : Draft) → with_end at d names ≡ Ok e → all_covers d ≡ all_covers e
 end-covers at d names e k =
     let none = passed (length names == 0) (Syntax at) (Ok (record d { ended = true })) e k in
@@ -81,9 +89,11 @@ same-size d e first names k =
 
 -- ---- a line that opens a cover
 
+-- the size of a draft with this open cover
 open-size : (d : Draft) (c : CoverValue) → draft_size (record d { current = Some c }) ≡ covers_size d.covers + rows_size c.rows + 1
 open-size d c = omega (arith, draft_size-parts (record d { current = Some c }), covers_size-cons c [])
 
+-- a cover that is opened counts one more
 names-size : (at : ℕ) (d : Draft) (names : List (List ℕ)) (e : Draft) → with_names at d names ≡ Ok e → draft_size e ≤ draft_size d + 1
 names-size at d names e k =
     let ins = without_last names in
@@ -98,9 +108,11 @@ names-size at d names e k =
 
 -- ---- a row
 
+-- a value that is there is one
 some_is : {A : Type 0} (x y : A) → Some x ≡ Some y → x ≡ y
 some_is x y e = cc
 
+-- the word of a row's sign has a byte
 bit_there : (bit : List ℕ) → is_bit bit ≡ true → 1 ≤ length bit
 bit_there [] e = absurd cc
 bit_there (b ∷ bs) e = omega arith
@@ -126,6 +138,7 @@ row_parts-size inputs (marks ∷ bit ∷ []) row e h = by (inputs == 0) e
         omega (arith, first, last, bit_there row.1 h, words_size-cons marks (bit ∷ []), words_size-cons bit [])
 row_parts-size inputs (a ∷ b ∷ c ∷ more) row e h = absurd cc
 
+-- a row adds no more to its cover than its words are long
 row-size : (at : ℕ) (c : CoverValue) (words : List (List ℕ)) (parts : Option (List ℕ × List ℕ)) (e : CoverValue) → row_parts (length c.ins) words ≡ parts → row_onto at c parts ≡ Ok e
     → rows_size e.rows ≤ rows_size c.rows + words_size words
 row-size at c words None e is k = absurd cc
@@ -137,6 +150,7 @@ row-size at c words (Some row) e is k =
     let rows : rows_size (c.rows ++ marks ∷ []) ≡ rows_size e.rows = ap (λ (x : CoverValue). rows_size x.rows) (ok_is (with_row c row.0 (bit_of row.1)) e same.1) in
     omega (arith, rows, sum_by_push (λ (r : List Mark). length r + 2) c.rows marks, length-map row.0 mark_of, row_parts-size (length c.ins) words row is bit)
 
+-- so does the line of a row to the draft
 row_line-size : (at : ℕ) (d : Draft) (o : Option CoverValue) (words : List (List ℕ)) (e : Draft) → d.current ≡ o → with_row_line at d o words ≡ Ok e → draft_size e ≤ draft_size d + words_size words
 row_line-size at d None words e is k = absurd cc
 row_line-size at d (Some c) words e is k =
@@ -147,6 +161,7 @@ row_line-size at d (Some c) words e is k =
 
 -- ---- all lines
 
+-- so does a line of any kind
 line-size : (kind : LineKind) (at : ℕ) (d : Draft) (first : List ℕ) (names : List (List ℕ)) (e : Draft) → with_line kind at d first names ≡ Ok e → draft_size e ≤ draft_size d + words_size (first ∷ names)
 line-size Model at d first names e k = same-size d e first names (model-covers at (closed d) names e k)
 line-size Inputs at d first names e k = same-size d e first names (inputs-covers at (closed d) names e k)
@@ -158,6 +173,7 @@ line-size End at d first names e k = same-size d e first names (end-covers at (c
 line-size Other at d first names e k = absurd cc
 line-size Row at d first names e k = row_line-size at d d.current (first ∷ names) e refl k
 
+-- so do the words of a line
 words-size : (at : ℕ) (d : Draft) (ws : List (List ℕ)) (e : Draft) → with_words at d ws ≡ Ok e → draft_size e ≤ draft_size d + words_size ws
 words-size at d [] e k =
     let same : draft_size d ≡ draft_size e = ap draft_size (ok_is d e k) in
@@ -169,6 +185,7 @@ words-size at d (first ∷ names) e k =
     let same : draft_size b.0 ≡ draft_size e = ap draft_size (ok_is (begun_with b.0) e b.2) in
     omega (arith, same, line-size (kind_of first) at d first names b.0 b.1)
 
+-- so do lines one after the other
 lines-size : (d : Draft) (ss : List Statement) (e : Draft) → Follows d ss e → draft_size e ≤ draft_size d + statements_size ss
 lines-size d [] e k =
     let same : draft_size d ≡ draft_size e = ap draft_size k in
@@ -179,6 +196,7 @@ lines-size d (s ∷ ss) e k =
 
 -- ---- the rows of a text
 
+-- the size of covers is that of their rows and one for each
 covers_size-rows : (cs : List CoverValue) → sum_by (λ (c : CoverValue). rows_size c.rows) cs + length cs ≡ covers_size cs
 covers_size-rows [] = refl
 covers_size-rows (c ∷ cs) = omega (arith, sum_by-cons (λ (d : CoverValue). rows_size d.rows) c cs, covers_size-cons c cs, covers_size-rows cs)

@@ -27,6 +27,7 @@ use Rattle.blif_laws.proofs.LineLemmas.{split_last}
 use Rattle.blif_laws.proofs.LineWords.{both}
 use Rattle.blif_laws.specs.Meaning.{inputs_of_kind, outputs_of_kind, cover_line_of_kind, inputs_on, outputs_on, cover_line_on, IsSaid}
 
+-- the lines that print all covers of a draft
 abbrev lines_of : Draft → List (List (List ℕ))
 lines_of d = flat_map cover_lines (all_covers d)
 
@@ -50,6 +51,7 @@ adds_from_closed d e inputs outputs k = record {
   lines_are = ap (flat_map cover_lines) (k.covers_are ∙ append-nil (all_covers d)) ∙ sym (append-nil (lines_of d));
 }
 
+-- taking an input adds that input, and leaves the covers
 input_keeps : (at : ℕ) (d : Draft) (name : List ℕ) (e : Draft) → with_input at d name ≡ Ok e → Keeps d e (name ∷ []) []
 input_keeps at d name e k =
     let fresh = unless_ok (is_among name (signals d)) (DoubleDriven at) _ e k in
@@ -57,6 +59,7 @@ input_keeps at d name e k =
     let P : Draft → Type 0 = λ e. Keeps d e (name ∷ []) [] in
     subst P (ok_is (record d { inputs = d.inputs ++ name ∷ [] }) e room.1) (record { inputs_are = refl; outputs_are = sym (append-nil d.outputs); covers_are = refl })
 
+-- taking an output adds that output, and leaves the covers
 output_keeps : (at : ℕ) (d : Draft) (name : List ℕ) (e : Draft) → with_output at d name ≡ Ok e → Keeps d e [] (name ∷ [])
 output_keeps at d name e k =
     let fresh = unless_ok (is_among name d.outputs) (RepeatedOutput at) _ e k in
@@ -64,6 +67,7 @@ output_keeps at d name e k =
     let P : Draft → Type 0 = λ e. Keeps d e [] (name ∷ []) in
     subst P (ok_is (record d { outputs = d.outputs ++ name ∷ [] }) e room.1) (record { inputs_are = sym (append-nil d.inputs); outputs_are = refl; covers_are = refl })
 
+-- a draft that stays as it is adds nothing
 keeps_same : (d e : Draft) → d ≡ e → Keeps d e [] []
 keeps_same d e h = subst (λ (x : Draft). Keeps d x [] []) h (record { inputs_are = sym (append-nil d.inputs); outputs_are = sym (append-nil d.outputs); covers_are = refl })
 
@@ -93,6 +97,7 @@ outputs_keep at d (n ∷ ns) e k =
       covers_are = more.covers_are ∙ one.covers_are;
     }
 
+-- the line of the model adds no name and no cover
 pub model_keeps : (at : ℕ) (d : Draft) (names : List (List ℕ)) (e : Draft) → with_model at d names ≡ Ok e → Keeps d e [] []
 model_keeps at d names e k =
     let early = unless_ok d.begun (Unsupported at) _ e k in
@@ -107,11 +112,13 @@ end_keeps at d names e k =
 
 -- ---- covers
 
+-- the lines of one cover more stand behind those of the others
 flat_map-push : (cs : List CoverValue) (c : CoverValue) → flat_map cover_lines (cs ++ c ∷ []) ≡ flat_map cover_lines cs ++ cover_lines c
 flat_map-push [] c = append-nil (cover_lines c)
 flat_map-push (d ∷ ds) c =
     ap (λ (ls : List (List (List ℕ))). cover_lines d ++ ls) (flat_map-push ds c) ∙ sym (append_assoc (cover_lines d) (flat_map cover_lines ds) (cover_lines c))
 
+-- words that pass the test of equality are equal
 same_bytes : (a b : List ℕ) → bytes_eq a b ≡ true → a ≡ b
 same_bytes [] [] e = refl
 same_bytes [] (y ∷ ys) e = absurd cc
@@ -164,25 +171,30 @@ cover_adds at d first names e kind k =
 
 -- ---- rows
 
+-- numbers that pass the test of equality are equal
 same_number : (n m : ℕ) → (n == m) ≡ true → n ≡ m
 same_number n m h = grind (arith, nat_tests)
 
+-- a byte that is one of the three marks is that of the mark it is read as
 byte_by : (a b c : Bool) (n : ℕ) → (a ≡ true → 48 ≡ n) → (b ≡ true → 49 ≡ n) → (c ≡ true → 45 ≡ n) → ((a || b) || c) ≡ true → mark_byte (cond a Zero (cond b One Any)) ≡ n
 byte_by true b c n p q r h = p refl
 byte_by false true c n p q r h = q refl
 byte_by false false true n p q r h = r refl
 byte_by false false false n p q r h = absurd cc
 
+-- the byte of a mark is that of the mark it is read as
 byte_again : (b : ℕ) → is_mark b ≡ true → mark_byte (mark_of b) ≡ b
 byte_again b h =
     byte_by (b == 48) (b == 49) (b == 45) b (λ e. sym (same_number b 48 e)) (λ e. sym (same_number b 49 e)) (λ e. sym (same_number b 45 e)) h
 
+-- so are those of the marks of a row
 bytes_again : (bytes : List ℕ) → list_all is_mark bytes ≡ true → map mark_byte (map mark_of bytes) ≡ bytes
 bytes_again [] h = refl
 bytes_again (b ∷ bs) h =
     let p = both (is_mark b) (list_all is_mark bs) h in
     ap (λ (n : ℕ). n ∷ map mark_byte (map mark_of bs)) (byte_again b p.0) ∙ ap (λ (ns : List ℕ). b ∷ ns) (bytes_again bs p.1)
 
+-- the word of a sign is that of the sign it is read as
 bit_again : (bit : List ℕ) → is_bit bit ≡ true → bit_word (bit_of bit) ≡ bit
 bit_again bit h =
     ⊎_elim (λ (e : bytes_eq bit (49 ∷ []) ≡ true). ap bit_word e ∙ sym (same_bytes bit (49 ∷ []) e))
@@ -209,6 +221,7 @@ rows_alike (r ∷ rs) on con h =
     alike false true h = absurd cc
     alike false false h = refl
 
+-- a row that is taken adds its line to those of the cover
 row_taken : (at : ℕ) (c : CoverValue) (marks bit : List ℕ) (row : List (List ℕ)) (e : CoverValue) → row_onto at c (Some (marks, bit)) ≡ Ok e
     → (length marks ≡ length c.ins → list_all is_mark marks ≡ true → is_bit bit ≡ true → row_words (bit_of bit) (map mark_of marks) ≡ row)
     → cover_lines e ≡ cover_lines c ++ row ∷ []
@@ -225,15 +238,18 @@ row_taken at c marks bit row e k spelled =
     ∙ ap (λ (rs : List (List (List ℕ))). rs ++ row_words (bit_of bit) (map mark_of marks) ∷ []) (rows_alike c.rows (bit_of bit) c.on same.0)
     ∙ ap (λ (r : List (List ℕ)). map (row_words c.on) c.rows ++ r ∷ []) row-is))
 
+-- no test comes out both ways
 apart : (b : Bool) → b ≡ true → b ≡ false → ⊥
 apart b e f = cc
 
+-- the words of a row with inputs are its marks and its sign
 row_spelled : (inputs : ℕ) (marks bit : List ℕ) → (inputs == 0) ≡ false → length marks ≡ inputs → list_all is_mark marks ≡ true → is_bit bit ≡ true
     → row_words (bit_of bit) (map mark_of marks) ≡ marks ∷ bit ∷ []
 row_spelled inputs [] bit some len h b = absurd (apart (inputs == 0) (ap (λ (n : ℕ). n == 0) (sym len)) some)
 row_spelled inputs (m ∷ ms) bit some len h b =
     ap (λ (w : List ℕ). w ∷ bit_word (bit_of bit) ∷ []) (bytes_again (m ∷ ms) h) ∙ ap (λ (w : List ℕ). (m ∷ ms) ∷ w ∷ []) (bit_again bit b)
 
+-- a row that is taken adds the line that its words are
 row_lines : (at : ℕ) (c : CoverValue) (row : List (List ℕ)) (e : CoverValue) → row_onto at c (row_parts (length c.ins) row) ≡ Ok e → cover_lines e ≡ cover_lines c ++ row ∷ []
 row_lines at c [] e k = absurd cc
 row_lines at c (bit ∷ []) e k =
@@ -258,6 +274,7 @@ row_lines at c (marks ∷ bit ∷ []) e k =
     refused at c e k = cc
 row_lines at c (a ∷ b ∷ d ∷ more) e k = absurd cc
 
+-- the line of a row adds that line alone
 row_adds : (at : ℕ) (d : Draft) (o : Option CoverValue) (row : List (List ℕ)) (e : Draft) → d.current ≡ o → with_row_line at d o row ≡ Ok e → Adds d e [] [] (row ∷ [])
 row_adds at d None row e is k = absurd cc
 row_adds at d (Some c) row e is k =
@@ -274,6 +291,7 @@ row_adds at d (Some c) row e is k =
 
 -- ---- all lines
 
+-- a line of each kind adds the names or the line that it says
 line_adds : (kind : LineKind) (at : ℕ) (d : Draft) (first : List ℕ) (names : List (List ℕ)) (e : Draft) → kind_of first ≡ kind → with_line kind at d first names ≡ Ok e
     → Adds d e (inputs_of_kind kind names) (outputs_of_kind kind names) (cover_line_of_kind kind (first ∷ names))
 line_adds Model at d first names e is k = adds_from_closed d e [] [] (model_keeps at (closed d) names e k)
@@ -284,9 +302,11 @@ line_adds End at d first names e is k = adds_from_closed d e [] [] (end_keeps at
 line_adds Other at d first names e is k = absurd cc
 line_adds Row at d first names e is k = row_adds at d d.current (first ∷ names) e refl k
 
+-- a draft that stays as it is adds nothing
 nothing_added : (d : Draft) → Adds d d [] [] []
 nothing_added d = record { inputs_are = sym (append-nil d.inputs); outputs_are = sym (append-nil d.outputs); lines_are = sym (append-nil (lines_of d)) }
 
+-- the words of a line add the names or the line that they say
 words_add : (at : ℕ) (d : Draft) (ws : List (List ℕ)) (e : Draft) → with_words at d ws ≡ Ok e → Adds d e (inputs_on ws) (outputs_on ws) (cover_line_on ws)
 words_add at d [] e k = subst (λ (x : Draft). Adds d x [] [] []) (ok_is d e k) (nothing_added d)
 words_add at d (first ∷ names) e k =
@@ -297,6 +317,7 @@ words_add at d (first ∷ names) e k =
     subst (λ (x : Draft). Adds d x (inputs_on (first ∷ names)) (outputs_on (first ∷ names)) (cover_line_on (first ∷ names))) (ok_is (begun_with b.0) e b.2)
     (record { inputs_are = a.inputs_are; outputs_are = a.outputs_are; lines_are = a.lines_are })
 
+-- and lines one after the other what all of them say
 lines_add : (d : Draft) (ss : List Statement) (e : Draft) → Follows d ss e
     → Adds d e (flat_map (λ s. inputs_on s.words) ss) (flat_map (λ s. outputs_on s.words) ss) (flat_map (λ s. cover_line_on s.words) ss)
 lines_add d [] e k = subst (λ (x : Draft). Adds d x [] [] []) k (nothing_added d)

@@ -21,6 +21,7 @@ pub All-right : {X : Type 0} (P : X → Type 0) (xs ys : List X) → AllByRecurs
 All-right P [] ys h = h
 All-right P (x ∷ xs) ys h = All-right P xs ys h.1
 
+-- equality of numbers may be tested either way round
 eqb_comm : (a b : ℕ) → eqb a b ≡ eqb b a
 eqb_comm a b = grind (arith, nat_tests)
 
@@ -31,6 +32,7 @@ bytes_eq_comm [] (b ∷ bs) = refl
 bytes_eq_comm (a ∷ more) [] = refl
 bytes_eq_comm (a ∷ more) (b ∷ bs) = rw (eqb_comm a b, bytes_eq_comm more bs) refl
 
+-- where not one of two tests holds, both fail
 neither : (a b : Bool) → (a || b) ≡ false → (a ≡ false) × (b ≡ false)
 neither true b e = absurd cc
 neither false b e = (refl, e)

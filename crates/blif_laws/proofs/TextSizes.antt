@@ -15,6 +15,7 @@ use Rattle.blif_laws.proofs.LineLemmas.{plain_words, words_by, put_first, words-
 abbrev pub words_size : List (List ℕ) → ℕ
 words_size ws = sum_by (λ w. length w + 1) ws
 
+-- the bytes of lines, and one more for each line
 abbrev lines_size : List Line → ℕ
 lines_size ls = sum_by (λ (l : Line). length l.bytes + 1) ls
 
@@ -28,18 +29,22 @@ words_size-cons w ws = sum_by-cons (λ (v : List ℕ). length v + 1) w ws
 
 -- ---- the words of a line
 
+-- one byte to spare, or none
 abbrev one_if : Bool → ℕ
 one_if true = 1
 one_if false = 0
 
+-- at most one byte is to spare
 one_if-le : (b : Bool) → one_if b ≤ 1
 one_if-le true = omega arith
 one_if-le false = omega arith
 
+-- one byte more in the first word counts one more
 words_size-put_first : (b : ℕ) (ws : List (List ℕ)) (n : ℕ) → words_size ws ≤ n + 1 → words_size (put_first b ws) ≤ n + 2
 words_size-put_first b [] n h = omega (arith, words_size-cons (b ∷ []) [])
 words_size-put_first b (w ∷ ws) n h = omega (arith, h, words_size-cons w ws, words_size-cons (b ∷ w) ws)
 
+-- one byte more in front of a line counts one more, but for the one that is to spare
 words_size-words_by : (blank starts : Bool) (b : ℕ) (ws : List (List ℕ)) (n : ℕ) → words_size ws ≤ n + one_if starts
     → words_size (words_by blank starts b ws) ≤ n + 1 + one_if (not blank)
 words_size-words_by true starts b ws n h = omega (arith, h, one_if-le starts)
@@ -52,6 +57,7 @@ words_size-plain_words [] = omega arith
 words_size-plain_words (b ∷ bs) =
     omega (arith, words_size-words_by (is_blank b) (begins_with_token is_blank bs) b (plain_words bs) (length bs) (words_size-plain_words bs))
 
+-- the words of a line are no longer than the line and its end
 words_size-words : (line : List ℕ) → words_size (words line) ≤ length line + 1
 words_size-words line =
     let P : List (List ℕ) → Type 0 = λ ws. words_size ws ≤ length line + 1 in
@@ -59,6 +65,7 @@ words_size-words line =
 
 -- ---- what counts of a line
 
+-- a byte in front of a trimmed line adds at most that byte
 length-onto_trimmed : (b : ℕ) (t : List ℕ) → length (onto_trimmed b t) ≤ length t + 1
 length-onto_trimmed b [] = by (is_blank b)
   where
@@ -67,13 +74,16 @@ length-onto_trimmed b [] = by (is_blank b)
     by false = omega arith
 length-onto_trimmed b (c ∷ cs) = omega arith
 
+-- a line is no longer without its blanks
 length-trimmed : (bytes : List ℕ) → length (trimmed bytes) ≤ length bytes
 length-trimmed [] = omega arith
 length-trimmed (b ∷ bs) = omega (arith, length-onto_trimmed b (trimmed bs), length-trimmed bs)
 
+-- nor are its first bytes
 length-front : (n : ℕ) (bytes : List ℕ) → length (take n bytes) ≤ length bytes
 length-front n bytes = omega (arith, length-take n bytes)
 
+-- nor is it without its carriage return
 length-without_return : (line : List ℕ) → length (without_return line) ≤ length line
 length-without_return line = by (ends_with 13 line)
   where
@@ -81,14 +91,17 @@ length-without_return line = by (ends_with 13 line)
     by true = length-front (length line - 1) line
     by false = omega arith
 
+-- nor without its comment
 length-without_comment : (line : List ℕ) → length (without_comment line) ≤ length line
 length-without_comment line = length-front (position_or_len (λ b. b == 35) line) line
 
+-- nor without both
 length-stripped : (line : List ℕ) → length (stripped line) ≤ length line
 unfolding stripped
 length-stripped line =
     omega (arith, length-trimmed (without_comment (without_return line)), length-without_comment (without_return line), length-without_return line)
 
+-- so what counts of a line is no longer than it
 length-content : (line : List ℕ) → length (content line) ≤ length line
 length-content line = by (joins line)
   where
@@ -106,6 +119,7 @@ lines_size-joined_to at bytes (n ∷ ns) =
     let after = sum_by-cons (λ (l : Line). length l.bytes + 1) n ns in
     omega (arith, both, after, length-append bytes (32 ∷ n.bytes))
 
+-- joined lines are no longer than the lines
 lines_size-joined : (at : ℕ) (lines : List (List ℕ)) → lines_size (joined at lines) ≤ words_size lines
 lines_size-joined at [] = omega arith
 lines_size-joined at (line ∷ more) =
@@ -116,6 +130,7 @@ lines_size-joined at (line ∷ more) =
     by true = lines_size-joined_to at (content line) (joined (at + 1) more)
     by false = sum_by-cons (λ (l : Line). length l.bytes + 1) (record { at = at; bytes = content line }) (joined (at + 1) more)
 
+-- one byte more in the first part counts one more
 words_size-onto_first : (b : ℕ) (parts : List (List ℕ)) (n : ℕ) → words_size parts ≤ n + 1 → words_size (onto_first b parts) ≤ n + 2
 words_size-onto_first b [] n h = omega (arith, words_size-cons (b ∷ []) [])
 words_size-onto_first b (p ∷ ps) n h = omega (arith, h, words_size-cons p ps, words_size-cons (b ∷ p) ps)
@@ -129,6 +144,7 @@ words_size-slice_split p (b ∷ bs) = omega (arith, by (p b) (words_size-slice_s
     by true h = omega (arith, words_size-cons [] (slice_split p bs), h)
     by false h = words_size-onto_first b (slice_split p bs) (length bs) h
 
+-- the words of lines are no longer than the lines
 statements_size-lines : (ls : List Line) → statements_size (map statement_of ls) ≤ lines_size ls
 statements_size-lines [] = omega arith
 statements_size-lines (l ∷ ls) =

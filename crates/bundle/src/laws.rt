@@ -8,8 +8,8 @@ ghost use Rattle.bundle_defs.specs.declared.faults.BundleError.{BundleError};
 pub fn bytes_have_one_bundle_or_fault()
     ensures some { (bytes : List ℕ) → All (λ byte. byte < 256) bytes
         → (answer : Result BundleValue BundleError) × BundleOf bytes answer }
-    ensures one { (bytes : List ℕ) (a b : Result BundleValue BundleError) → BundleOf bytes a → BundleOf bytes b
-        → a ≡ b }
+    ensures one { (bytes : List ℕ) (a b : Result BundleValue BundleError)
+        → BundleOf bytes a → BundleOf bytes b → a ≡ b }
 {}
 
 /// What is printed of a value is the bundle of that value, and of nothing else.

@@ -24,7 +24,12 @@ pub fn print_bundle(
     requires config { length config.now < 2 ^ 32 }
     requires trace { length trace.now < 2 ^ 32 }
     ensures { IfOk result (λ v. v.items
-        ≡ bundle_bytes (record { version = version; geometry = g; config = config.now; trace = trace.now })) }
+        ≡ bundle_bytes (record {
+            version = version;
+            geometry = g;
+            config = config.now;
+            trace = trace.now;
+        })) }
 {
     let length = HEAD_BYTES + config.len() + LENGTH_BYTES + trace.len() + DIGEST_BYTES;
     let mut out = Vec::with_capacity(alloc, length)?;
@@ -51,7 +56,8 @@ fn append_geometry(out: &mut Vec<u8>, g: Geometry) -> Result<(), NoMemory>
 /// Appends the length of a part, and the part.
 fn append_part(out: &mut Vec<u8>, part: &[u8]) -> Result<(), NoMemory>
     requires { length part.now < 2 ^ 32 }
-    ensures { OnOk result (out.new.items ≡ out.old.items ++ big_bytes 4 (length part.now) ++ part.now) }
+    ensures { OnOk result (out.new.items
+        ≡ out.old.items ++ big_bytes 4 (length part.now) ++ part.now) }
 {
     let mut length_bytes = [0; 4];
     BigEndian::write_u32(&mut length_bytes, part.len() as u32);

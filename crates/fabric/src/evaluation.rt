@@ -148,7 +148,8 @@ fn switch_tracks(config: &Config, column: u32, cells: &BitArray, tracks: &mut Bi
 fn output_bits(config: &Config, tracks: &BitArray) -> Bits
     requires { length tracks.now ≡ config.now.geometry.tracks + 1 }
     ensures { (x : List ℕ) (w : Wiring)
-        → HasChannel config.now x config.now.geometry.columns tracks.now → Wired config.now x w → result ≡ pad_bits config.now w }
+        → HasChannel config.now x config.now.geometry.columns tracks.now → Wired config.now x w
+        → result ≡ pad_bits config.now w }
 {
     let words = config.output_pads();
     let count = config.geometry().o();

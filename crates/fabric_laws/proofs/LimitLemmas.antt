@@ -42,13 +42,15 @@ length-column_limits g =
     length-append (cells_part g) (list_of g.tracks (λ track. g.rows + 1))
     ∙ omega (arith, length-cells_part g)
 
--- the limits of channel 0, of all columns, and of the output pads
+-- the limits of channel 0
 first_part : GeometryValue → List ℕ
 first_part g = list_of g.tracks (λ track. g.input_pads)
 
+-- those of all columns
 columns_part : GeometryValue → List ℕ
 columns_part g = joined g.columns (λ column. column_limits g)
 
+-- and those of the output pads
 outputs_part : GeometryValue → List ℕ
 outputs_part g = list_of g.output_pads (λ pad. g.tracks)
 

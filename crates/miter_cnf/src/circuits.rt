@@ -121,7 +121,9 @@ impl<'a> Circuits<'a> {
 
     /// Where a pin or an output pad listens.
     pub(crate) fn source(&self, source: Source) -> Lit
-        requires { IsSourceBelow self.now.cells.geometry.input_pads (cell_count self.now.cells.geometry) source }
+        requires { IsSourceBelow
+            self.now.cells.geometry.input_pads
+            (cell_count self.now.cells.geometry) source }
         ensures { result ≡ positive (source_variable self.now.net self.now.cells source) }
     {
         match source {

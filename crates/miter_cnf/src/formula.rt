@@ -49,8 +49,10 @@ pub fn miter_clauses(alloc: Global, net: &Net, cells: &Cells) -> Result<Cnf, NoM
     ensures variables { IfOk result (λ f. f.variables ≡ variable_count net.now cells.now) }
     ensures clauses { IfOk result (λ f. f.clauses ≡ (Miter net.now cells.now).clauses) }
     ensures few_variables { IfOk result (λ f. f.variables ≤ MAX_VARIABLE) }
-    ensures within { IfOk result (λ f. (c : Lits) → Has f.clauses c → WithinVariables f.variables c) }
-    ensures sound { IfOk result (λ f. (config : ConfigValue) → IsConfig config → AreSourcesOf config cells.now
+    ensures within { IfOk result (λ f.
+        (c : Lits) → Has f.clauses c → WithinVariables f.variables c) }
+    ensures sound { IfOk result (λ f. (config : ConfigValue)
+        → IsConfig config → AreSourcesOf config cells.now
         → Unsat f.variables f.clauses → Equal net.now config) }
 {
     let circuits = Circuits::of(alloc, net, cells)?;
@@ -66,7 +68,8 @@ pub fn miter_clauses(alloc: Global, net: &Net, cells: &Cells) -> Result<Cnf, NoM
 pub fn miter(alloc: Global, net: &Net, cells: &Cells) -> Result<ClauseSet, NoMemory>
     requires { FitsPads net.now cells.now.geometry }
     ensures formula { IfOk result (λ s. s ≡ Miter net.now cells.now) }
-    ensures sound { IfOk result (λ s. (config : ConfigValue) → IsConfig config → AreSourcesOf config cells.now
+    ensures sound { IfOk result (λ s. (config : ConfigValue)
+        → IsConfig config → AreSourcesOf config cells.now
         → Unsat s.variables s.clauses → Equal net.now config) }
 {
     let Cnf { variables, clauses } = miter_clauses(alloc, net, cells)?;

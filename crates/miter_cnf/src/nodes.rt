@@ -28,7 +28,9 @@ impl<'a> Circuits<'a> {
     /// Writes that what a mark asks is so where the row hits.
     fn write_mark(&self, hit: Lit, mark: Mark, s: u32, w: &mut Writer) -> Result<(), NoMemory>
         requires { s < signals self.now.net }
-        ensures { OnOk result (Adds w.old.clauses (map (λ l. negation hit ∷ l ∷ []) (mark_literals mark s)) w.new.clauses) }
+        ensures { OnOk result (Adds w.old.clauses
+            (map (λ l. negation hit ∷ l ∷ []) (mark_literals mark s))
+            w.new.clauses) }
     {
         match self.asked(mark, s) {
             Some(l) => w.write(&[hit.negated(), l]),
@@ -46,7 +48,9 @@ impl<'a> Circuits<'a> {
     ) -> Result<(), NoMemory>
         requires marks { length row.now ≡ length fan_ins.now }
         requires within { All (λ s. s < signals self.now.net) fan_ins.now }
-        ensures { OnOk result (Adds w.old.clauses (map (λ l. negation hit ∷ l ∷ []) (row_literals row.now fan_ins.now)) w.new.clauses) }
+        ensures { OnOk result (Adds w.old.clauses
+            (map (λ l. negation hit ∷ l ∷ []) (row_literals row.now fan_ins.now))
+            w.new.clauses) }
     {
         for (i, mark) in row.iter().enumerate() {
             self.write_mark(hit, *mark, fan_ins[i], w)?;
@@ -58,7 +62,8 @@ impl<'a> Circuits<'a> {
     fn add_mark(&self, mark: Mark, s: u32, w: &mut Writer) -> Result<(), NoMemory>
         requires { s < signals self.now.net }
         ensures clauses { OnOk result (w.new.clauses ≡ w.old.clauses) }
-        ensures literals { OnOk result (w.new.literals.items ≡ w.old.literals.items ++ map negation (mark_literals mark s)) }
+        ensures literals { OnOk result (w.new.literals.items
+            ≡ w.old.literals.items ++ map negation (mark_literals mark s)) }
     {
         match self.asked(mark, s) {
             Some(l) => w.add(l.negated()),
@@ -71,7 +76,8 @@ impl<'a> Circuits<'a> {
         requires marks { length row.now ≡ length fan_ins.now }
         requires within { All (λ s. s < signals self.now.net) fan_ins.now }
         ensures clauses { OnOk result (w.new.clauses ≡ w.old.clauses) }
-        ensures literals { OnOk result (w.new.literals.items ≡ w.old.literals.items ++ map negation (row_literals row.now fan_ins.now)) }
+        ensures literals { OnOk result (w.new.literals.items
+            ≡ w.old.literals.items ++ map negation (row_literals row.now fan_ins.now)) }
     {
         for (i, mark) in row.iter().enumerate() {
             self.add_mark(*mark, fan_ins[i], w)?;
@@ -84,7 +90,8 @@ impl<'a> Circuits<'a> {
         requires node { v < length self.now.net.nodes }
         requires row { r < length (node_at self.now.net v).rows }
         ensures { OnOk result (Adds w.old.clauses
-            (hit_clauses (row_variable self.now.net v r) (row_literals (row_at self.now.net v r) (node_at self.now.net v).fan_ins))
+            (hit_clauses (row_variable self.now.net v r)
+                (row_literals (row_at self.now.net v r) (node_at self.now.net v).fan_ins))
             w.new.clauses) }
     {
         let net = self.net;
@@ -105,7 +112,8 @@ impl<'a> Circuits<'a> {
         requires { v < length self.now.net.nodes }
         ensures { OnOk result (Adds w.old.clauses
             (joined (length (node_at self.now.net v).rows)
-            (λ r. hit_clauses (row_variable self.now.net v r) (row_literals (row_at self.now.net v r) (node_at self.now.net v).fan_ins)))
+                (λ r. hit_clauses (row_variable self.now.net v r)
+                    (row_literals (row_at self.now.net v r) (node_at self.now.net v).fan_ins)))
             w.new.clauses) }
     {
         for r in 0..self.rows(v) {
@@ -119,7 +127,9 @@ impl<'a> Circuits<'a> {
         requires { v < length self.now.net.nodes }
         ensures { OnOk result (Adds w.old.clauses
             ((literal (node_variable self.now.net v) (not (node_at self.now.net v).on)
-            ∷ map positive (list_of (length (node_at self.now.net v).rows) (row_variable self.now.net v))) ∷ [])
+                ∷ map positive (list_of
+                    (length (node_at self.now.net v).rows)
+                    (row_variable self.now.net v))) ∷ [])
             w.new.clauses) }
     {
         let net = self.net;
@@ -135,8 +145,10 @@ impl<'a> Circuits<'a> {
     fn write_hits(&self, v: u32, w: &mut Writer) -> Result<(), NoMemory>
         requires { v < length self.now.net.nodes }
         ensures { OnOk result (Adds w.old.clauses
-            (map (λ hit. literal (node_variable self.now.net v) (node_at self.now.net v).on ∷ negative hit ∷ [])
-            (list_of (length (node_at self.now.net v).rows) (row_variable self.now.net v)))
+            (map
+                (λ hit. literal (node_variable self.now.net v) (node_at self.now.net v).on
+                    ∷ negative hit ∷ [])
+                (list_of (length (node_at self.now.net v).rows) (row_variable self.now.net v)))
             w.new.clauses) }
     {
         let net = self.net;
@@ -159,7 +171,9 @@ impl<'a> Circuits<'a> {
 
     /// Writes the nodes.
     pub(crate) fn write_nodes(&self, w: &mut Writer) -> Result<(), NoMemory>
-        ensures { OnOk result (Adds w.old.clauses (joined (length self.now.net.nodes) (node_clauses self.now.net)) w.new.clauses) }
+        ensures { OnOk result (Adds w.old.clauses
+            (joined (length self.now.net.nodes) (node_clauses self.now.net))
+            w.new.clauses) }
     {
         let net = self.net;
         for v in 0..net.nodes() {

@@ -46,10 +46,20 @@ impl Model for Numbering {
 
     ghost Value = { NumberingValue };
 
-    ghost view = { λ m. record { inputs = m.inputs; rows = m.rows.items; cone = m.cone.items; outputs = m.outputs } };
+    ghost view = { λ m. record {
+        inputs = m.inputs;
+        rows = m.rows.items;
+        cone = m.cone.items;
+        outputs = m.outputs;
+    } };
 
     ghost invariant = { λ m.
-        IsNumbering (record { inputs = m.inputs; rows = m.rows.items; cone = m.cone.items; outputs = m.outputs })
+        IsNumbering (record {
+            inputs = m.inputs;
+            rows = m.rows.items;
+            cone = m.cone.items;
+            outputs = m.outputs;
+        })
         m.first_rows.items m.cells.items m.first_difference };
 }
 

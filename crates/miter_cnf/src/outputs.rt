@@ -12,7 +12,9 @@ fn write_difference(d: Lit, a: Lit, b: Lit, w: &mut Writer) -> Result<(), NoMemo
     requires difference { IsTrue d.positive }
     requires first { IsTrue a.positive }
     requires second { IsTrue b.positive }
-    ensures { OnOk result (Adds w.old.clauses (difference_clauses d.variable a.variable b.variable) w.new.clauses) }
+    ensures { OnOk result (Adds w.old.clauses
+        (difference_clauses d.variable a.variable b.variable)
+        w.new.clauses) }
 {
     w.write(&[d.negated(), a, b])?;
     w.write(&[d.negated(), a.negated(), b.negated()])?;
@@ -24,7 +26,9 @@ impl<'a> Circuits<'a> {
     /// Writes the difference of output `o`.
     fn write_output(&self, o: u32, w: &mut Writer) -> Result<(), NoMemory>
         requires { o < length self.now.net.outputs }
-        ensures { OnOk result (Adds w.old.clauses (output_clauses self.now.net self.now.cells o) w.new.clauses) }
+        ensures { OnOk result (Adds w.old.clauses
+            (output_clauses self.now.net self.now.cells o)
+            w.new.clauses) }
     {
         let net = self.net;
         let cells = self.cells;
@@ -35,7 +39,9 @@ impl<'a> Circuits<'a> {
 
     /// Writes the differences of the outputs.
     pub(crate) fn write_outputs(&self, w: &mut Writer) -> Result<(), NoMemory>
-        ensures { OnOk result (Adds w.old.clauses (joined (length self.now.net.outputs) (output_clauses self.now.net self.now.cells)) w.new.clauses) }
+        ensures { OnOk result (Adds w.old.clauses
+            (joined (length self.now.net.outputs) (output_clauses self.now.net self.now.cells))
+            w.new.clauses) }
     {
         let net = self.net;
         for o in 0..net.outputs() {
@@ -46,7 +52,9 @@ impl<'a> Circuits<'a> {
 
     /// Writes that some output differs.
     pub(crate) fn write_some_difference(&self, w: &mut Writer) -> Result<(), NoMemory>
-        ensures { OnOk result (Adds w.old.clauses (some_difference self.now.net self.now.cells ∷ []) w.new.clauses) }
+        ensures { OnOk result (Adds w.old.clauses
+            (some_difference self.now.net self.now.cells ∷ [])
+            w.new.clauses) }
     {
         let net = self.net;
         w.begin();

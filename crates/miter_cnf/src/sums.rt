@@ -11,7 +11,8 @@ use std::alloc::{AllocError, Global};
 
 /// How many rows each node has.
 pub(crate) fn row_counts(alloc: Global, net: &Net) -> Result<Vec<u32>, AllocError>
-    ensures { IfOk result (λ counts. counts.items ≡ map (λ (node : Node). length node.rows) net.now.nodes) }
+    ensures { IfOk result (λ counts. counts.items
+        ≡ map (λ (node : Node). length node.rows) net.now.nodes) }
 {
     let mut counts = Vec::with_capacity(alloc, net.nodes() as usize)?;
     for v in 0..net.nodes() {
@@ -23,7 +24,8 @@ pub(crate) fn row_counts(alloc: Global, net: &Net) -> Result<Vec<u32>, AllocErro
 /// For each count the sum of those before it, from `first` on.
 pub(crate) fn sums_before(alloc: Global, first: u32, counts: &[u32]) -> Result<Vec<u32>, AllocError>
     requires { first + sum counts.now < 2 ^ 32 }
-    ensures { IfOk result (λ sums. sums.items ≡ list_of (length counts.now) (sum_before first counts.now)) }
+    ensures { IfOk result (λ sums. sums.items
+        ≡ list_of (length counts.now) (sum_before first counts.now)) }
 {
     let mut sums = Vec::with_capacity(alloc, counts.len())?;
     let mut next = first;
@@ -41,7 +43,8 @@ pub(crate) fn flags_before(
     flags: &[bool],
 ) -> Result<Vec<u32>, AllocError>
     requires { first + count_by (λ b. b) flags.now < 2 ^ 32 }
-    ensures { IfOk result (λ numbers. numbers.items ≡ list_of (length flags.now) (flags_before first flags.now)) }
+    ensures { IfOk result (λ numbers. numbers.items
+        ≡ list_of (length flags.now) (flags_before first flags.now)) }
 {
     let mut numbers = Vec::with_capacity(alloc, flags.len())?;
     let mut next = first;

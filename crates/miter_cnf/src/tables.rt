@@ -28,7 +28,9 @@ fn table_bits(g: Geometry) -> u32
 fn write_bit(cell: Lit, table: u64, pins: &[Lit], n: u32, w: &mut Writer) -> Result<(), NoMemory>
     requires pins { length pins.now ≤ MAX_PINS }
     requires bit { n < 2 ^ length pins.now }
-    ensures { OnOk result (Adds w.old.clauses (bit_clause pins.now cell table n ∷ []) w.new.clauses) }
+    ensures { OnOk result (Adds w.old.clauses
+        (bit_clause pins.now cell table n ∷ [])
+        w.new.clauses) }
 {
     w.begin();
     for (j, pin) in pins.iter().enumerate() {
@@ -41,8 +43,11 @@ fn write_bit(cell: Lit, table: u64, pins: &[Lit], n: u32, w: &mut Writer) -> Res
 impl<'a> Circuits<'a> {
     /// Makes `pins` the literals of the sources of pins.
     fn put_pins(&self, sources: &[Source], pins: &mut Vec<Lit>) -> Result<(), NoMemory>
-        requires { All (IsSourceBelow self.now.cells.geometry.input_pads (cell_count self.now.cells.geometry)) sources.now }
-        ensures { OnOk result (pins.new.items ≡ source_literals self.now.net self.now.cells sources.now) }
+        requires { All (IsSourceBelow
+            self.now.cells.geometry.input_pads
+            (cell_count self.now.cells.geometry)) sources.now }
+        ensures { OnOk result
+            (pins.new.items ≡ source_literals self.now.net self.now.cells sources.now) }
     {
         pins.clear();
         for source in sources {
@@ -55,7 +60,9 @@ impl<'a> Circuits<'a> {
     fn write_table(&self, k: u32, pins: &mut Vec<Lit>, w: &mut Writer) -> Result<(), NoMemory>
         requires { k < cell_count self.now.cells.geometry }
         ensures { OnOk result (Adds w.old.clauses
-            (list_of (table_bits self.now.cells.geometry) (table_clause self.now.net self.now.cells k)) w.new.clauses) }
+            (list_of (table_bits self.now.cells.geometry)
+                (table_clause self.now.net self.now.cells k))
+            w.new.clauses) }
     {
         let cells = self.cells;
         let cell = cells.cell(k);
@@ -70,7 +77,9 @@ impl<'a> Circuits<'a> {
     /// Writes cell `k`, if it is in the cone.
     fn write_cell(&self, k: u32, pins: &mut Vec<Lit>, w: &mut Writer) -> Result<(), NoMemory>
         requires { k < cell_count self.now.cells.geometry }
-        ensures { OnOk result (Adds w.old.clauses (cell_clauses self.now.net self.now.cells k) w.new.clauses) }
+        ensures { OnOk result (Adds w.old.clauses
+            (cell_clauses self.now.net self.now.cells k)
+            w.new.clauses) }
     {
         let cells = self.cells;
         if cells.in_cone(k) {
@@ -83,7 +92,8 @@ impl<'a> Circuits<'a> {
     /// Writes the cells of the cone.
     pub(crate) fn write_cells(&self, alloc: Global, w: &mut Writer) -> Result<(), NoMemory>
         ensures { OnOk result (Adds w.old.clauses
-            (joined (length self.now.cells.cells) (cell_clauses self.now.net self.now.cells)) w.new.clauses) }
+            (joined (length self.now.cells.cells) (cell_clauses self.now.net self.now.cells))
+            w.new.clauses) }
     {
         let mut pins = Vec::new(alloc);
         for k in 0..self.cells.geometry().cells() {

@@ -35,7 +35,8 @@ impl Writer {
     /// Adds a literal to the clause.
     pub(crate) fn add(&mut self, l: Lit) -> Result<(), NoMemory>
         ensures clauses { OnOk result (self.new.clauses ≡ self.old.clauses) }
-        ensures literals { OnOk result (self.new.literals.items ≡ self.old.literals.items ++ l ∷ []) }
+        ensures literals { OnOk result
+            (self.new.literals.items ≡ self.old.literals.items ++ l ∷ []) }
     {
         self.literals.push(l)?;
         Ok(())
@@ -43,7 +44,9 @@ impl Writer {
 
     /// Writes the clause: each of its literals once, in their order.
     pub(crate) fn end(&mut self) -> Result<(), NoMemory>
-        ensures { OnOk result (Adds self.old.clauses (self.old.literals.items ∷ []) self.new.clauses) }
+        ensures { OnOk result (Adds self.old.clauses
+            (self.old.literals.items ∷ [])
+            self.new.clauses) }
     {
         order_literals(&mut self.literals);
         self.clauses.push_lits(&self.literals)

@@ -25,8 +25,9 @@ pub fn inputs_extend()
 /// A network that fits the pads equals a configuration where no assignment satisfies their miter. The set
 /// of cells that counts as the cone only has to be closed.
 pub fn unsatisfiable_means_equal()
-    ensures { (net : Network) (config : ConfigValue) (cells : CellsValue) → IsNet net → IsConfig config
-        → AreSourcesOf config cells → IsClosed cells (in_cone cells) → FitsPads net config.geometry
+    ensures { (net : Network) (config : ConfigValue) (cells : CellsValue)
+        → IsNet net → IsConfig config → AreSourcesOf config cells
+        → IsClosed cells (in_cone cells) → FitsPads net config.geometry
         → Unsat (variable_count net cells) (Miter net cells).clauses → Equal net config }
 {}
 
@@ -37,7 +38,8 @@ pub fn clauses_are_clauses()
         → length cells.cone ≡ cell_count cells.geometry
         → (c : Lits) → Has (Miter net cells).clauses c → IsClause c }
     ensures within { (net : Network) (cells : CellsValue) → IsNet net
-        → (c : Lits) → Has (Miter net cells).clauses c → WithinVariables (variable_count net cells) c }
+        → (c : Lits) → Has (Miter net cells).clauses c
+        → WithinVariables (variable_count net cells) c }
     ensures variables { (net : Network) (cells : CellsValue) → IsNet net → IsGeometry cells.geometry
         → length cells.cone ≡ cell_count cells.geometry → variable_count net cells ≤ MAX_VARIABLE }
 {}

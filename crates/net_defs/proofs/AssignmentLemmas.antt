@@ -27,10 +27,12 @@ record Agree (net : Network) (k : ℕ) (p q : List ℕ) : Type 0 where
 next_bits : Network → List ℕ → List ℕ → List ℕ
 next_bits net x p = x ++ map (λ (node : Node). node_bit node (bits_at p node.fan_ins)) net.nodes
 
+-- a round gives the inputs their bits
 next_bits-input : (net : Network) (x p : List ℕ) (s : ℕ) → s < length x → get_or (next_bits net x p) s 0 ≡ get_or x s 0
 unfolding next_bits
 next_bits-input net x p s lt = get_or_append_left x _ 0 s lt
 
+-- and each node that of its fan-ins before the round
 next_bits-node : (net : Network) (x p : List ℕ) (v n : ℕ) → length x ≡ n → v < length net.nodes
     → get_or (next_bits net x p) (n + v) 0 ≡ node_bit (node_at net v) (bits_at p (node_at net v).fan_ins)
 unfolding next_bits
@@ -39,6 +41,7 @@ next_bits-node net x p v n e lt =
     ∙ get_or-append-add x _ v 0
     ∙ get_or-map (λ (node : Node). node_bit node (bits_at p node.fan_ins)) net.nodes v no_node 0 lt
 
+-- a round has a bit for each signal
 length-next_bits : (net : Network) (x p : List ℕ) → length (next_bits net x p) ≡ length x + length net.nodes
 unfolding next_bits
 length-next_bits net x p =
@@ -73,6 +76,7 @@ rounds : Network → List ℕ → ℕ → List ℕ
 rounds net x zero = next_bits net x []
 rounds net x (suc k) = next_bits net x (rounds net x k)
 
+-- one round more changes no node that is settled in k rounds
 rounds-agree : (net : Network) (x : List ℕ) (k : ℕ) → length x ≡ length net.inputs
     → Agree net k (rounds net x (suc k)) (rounds net x k)
 unfolding rounds
@@ -82,20 +86,24 @@ rounds-agree net x zero e = record {
 }
 rounds-agree net x (suc k) e = next_bits-agree net x _ _ k e (rounds-agree net x k e)
 
+-- all rounds have a bit for each signal
 length-rounds : (net : Network) (x : List ℕ) (k : ℕ) → length (rounds net x k) ≡ length x + length net.nodes
 unfolding rounds
 length-rounds net x zero = length-next_bits net x []
 length-rounds net x (suc k) = length-next_bits net x (rounds net x k)
 
+-- a round begins with the bits of the inputs
 take-next_bits : (net : Network) (x p : List ℕ) (n : ℕ) → length x ≡ n → take n (next_bits net x p) ≡ x
 unfolding next_bits
 take-next_bits net x p n e = take_at x _ n e
 
+-- so do all rounds
 take-rounds : (net : Network) (x : List ℕ) (k n : ℕ) → length x ≡ n → take n (rounds net x k) ≡ x
 unfolding rounds
 take-rounds net x zero n e = take-next_bits net x [] n e
 take-rounds net x (suc k) n e = take-next_bits net x (rounds net x k) n e
 
+-- the last round is one on those before
 rounds-suc : (net : Network) (x : List ℕ) (k : ℕ) → rounds net x (suc k) ≡ next_bits net x (rounds net x k)
 unfolding rounds
 rounds-suc net x k = refl
@@ -117,6 +125,7 @@ assignment_exists net x acyclic e =
       },
     )
 
+-- two assignments agree at the inputs and at the nodes that are settled in k rounds
 assignments-agree : (net : Network) (x a b : List ℕ) → Settles net x a → Settles net x b → (k : ℕ) → Agree net k a b
 assignments-agree net x a b p q zero = record {
   at_inputs = λ s lt.

@@ -15,11 +15,13 @@ use Rattle.net_laws.proofs.PlaceLemmas.{zip_at, zip_length, zip_unique, stands_a
 
 -- ---- the aligned network is determined
 
+-- a rearrangement has no place twice
 no_place_twice : (n : ℕ) (places : List ℕ) (s i j : ℕ) → IsRearrangement n places → slice_get places i ≡ Some s → slice_get places j ≡ Some s → i < j → ⊥
 no_place_twice n places s i j r at_i at_j below =
     r.distinct i j below (omega (arith, slice_get_within places j s at_j, r.as_many))
     (get_or_from_slice_get places i s 0 at_i ∙ sym (get_or_from_slice_get places j s 0 at_j))
 
+-- its places are those of the list
 place_within : (n : ℕ) (places : List ℕ) (s t : ℕ) → IsRearrangement n places → slice_get places t ≡ Some s → s < n
 place_within n places s t r at =
     let P : ℕ → Type 0 = λ m. m < n in
@@ -38,17 +40,20 @@ IsMoved-unique n places s t u r h k =
     (λ past. ⊎_elim (λ at_u. absurd (omega (arith, place_within n places s u r at_u, r.as_many, past.0))) (λ also. past.1 ∙ sym also.1) k)
     h
 
+-- nodes with the same fan-ins, sign and rows are the same
 same_node : (a b : Node) → a.fan_ins ≡ b.fan_ins → a.on ≡ b.on → a.rows ≡ b.rows → a ≡ b
 same_node a b d e f =
     let node : List ℕ → Bool → List (List Mark) → Node = λ fan_ins on rows. record { fan_ins = fan_ins; on = on; rows = rows } in
     ap (λ x. node x a.on a.rows) d ∙ ap (λ x. node b.fan_ins x a.rows) e ∙ ap (λ x. node b.fan_ins b.on x) f
 
+-- a node is moved to one node
 IsMovedNode-unique : (n : ℕ) (places : List ℕ) (node a b : Node) → IsRearrangement n places → IsMovedNode places node a → IsMovedNode places node b → a ≡ b
 IsMovedNode-unique n places node a b r h k =
     same_node a b
     (zip_unique (IsMoved places) (λ s t u. IsMoved-unique n places s t u r) node.fan_ins a.fan_ins b.fan_ins h.fan_ins k.fan_ins)
     (h.on ∙ sym k.on) (h.rows ∙ sym k.rows)
 
+-- an output is moved to one output
 IsOutputFrom-unique : (n : ℕ) (design : Network) (places : List ℕ) (k : ℕ) (a b : Output) → IsRearrangement n places → IsOutputFrom design.outputs places k a
     → IsOutputFrom design.outputs places k b → a ≡ b
 IsOutputFrom-unique n design places k a b r h i =
@@ -102,6 +107,7 @@ output_names-aligned spec design p net h k =
 AgreeMoved : List ℕ → List ℕ → List ℕ → Type 0
 AgreeMoved places b a = (s t : ℕ) → IsMoved places s t → get_or b s 0 ≡ get_or a t 0
 
+-- moved signals have the bits that they had before
 bits_at-moved : (places b a ss ts : List ℕ) → AgreeMoved places b a → AllZip (IsMoved places) ss ts → bits_at b ss ≡ bits_at a ts
 unfolding AgreeMoved
 bits_at-moved places b a [] [] agree h = refl
@@ -110,6 +116,7 @@ bits_at-moved places b a (s ∷ ss) [] agree h = absurd h
 bits_at-moved places b a (s ∷ ss) (t ∷ ts) agree h =
     ap (λ l. get_or b s 0 ∷ l) (bits_at-moved places b a ss ts agree h.1) ∙ ap (λ x. x ∷ bits_at a ts) (agree s t h.0)
 
+-- so a moved node has the bit of the node
 node_bit-moved : (places b a : List ℕ) (node moved : Node) → AgreeMoved places b a → IsMovedNode places node moved
     → node_bit node (bits_at b node.fan_ins) ≡ node_bit moved (bits_at a moved.fan_ins)
 node_bit-moved places b a node moved agree h =
@@ -155,11 +162,13 @@ agree_from places u x b a h front_b front_a rest = λ s t moved.
 joined_front : (front list : List ℕ) (n s : ℕ) → length front ≡ n → s < n → get_or (front ++ drop n list) s 0 ≡ get_or front s 0
 joined_front front list n s e lt = get_or_append_left front (drop n list) 0 s (omega arith)
 
+-- behind a new front of the same length a list is as it was
 joined_rest : (front list : List ℕ) (n s : ℕ) → length front ≡ n → n ≤ s → get_or (front ++ drop n list) s 0 ≡ get_or list s 0
 joined_rest front list n s e le =
     get_or-append_right front (drop n list) n s 0 e le ∙ get_or-drop n list (s - n) 0
     ∙ (let same : n + (s - n) ≡ s = omega arith in ap (λ m. get_or list m 0) same)
 
+-- and it has the same length
 length-joined : (front list : List ℕ) (n m : ℕ) → length front ≡ n → length list ≡ n + m → length (front ++ drop n list) ≡ n + m
 length-joined front list n m e size = omega (arith, length-append front (drop n list), length-drop n list, e, size)
 

@@ -43,6 +43,7 @@ Settled-aligned design p net (suc k) v pairs h settled =
           (subst P same known),
     )
 
+-- an aligned network is acyclic where the design is
 IsAcyclic-aligned : (design : Network) (p : PlacePairs) (net : Network) → Pairs design p → IsAligned design p net → IsAcyclic design → IsAcyclic net
 IsAcyclic-aligned design p net pairs h acyclic = λ v lt.
     let e : length design.nodes ≡ length net.nodes = sym (nodes_count design p net h) in
@@ -54,11 +55,13 @@ moved_within : (places : List ℕ) (s t n : ℕ) → length places ≤ n → IsM
 moved_within places s t n le moved lt =
     ⊎_elim (λ at. omega (arith, slice_get_within places t s at)) (λ past. omega (arith, past.1)) moved
 
+-- the moved fan-ins are signals of the network
 fan_ins_within : (places ss ts : List ℕ) (n : ℕ) → length places ≤ n → AllZip (IsMoved places) ss ts → All (λ s. s < n) ss → All (λ t. t < n) ts
 fan_ins_within places ss ts n le h all = λ i d lt.
     let lt2 : i < length ss = omega (arith, zip_length (IsMoved places) ss ts h) in
     moved_within places (get_or ss i 0) (get_or ts i d) n le (zip_at (IsMoved places) ss ts i 0 d h lt2) (all i 0 lt2)
 
+-- a moved node is a node
 IsNode-moved : (places : List ℕ) (node moved : Node) (n : ℕ) → length places ≤ n → IsMovedNode places node moved → IsNode n node → IsNode n moved
 IsNode-moved places node moved n le h is =
     let size = zip_length (IsMoved places) node.fan_ins moved.fan_ins h.fan_ins in
@@ -71,6 +74,7 @@ IsNode-moved places node moved n le h is =
       on = λ none. h.on ∙ is.on (sym h.rows ∙ none);
     }
 
+-- a moved output shows a signal of the network
 output_within : (design : Network) (places : List ℕ) (k : ℕ) (moved : Output) (n : ℕ) → length places ≤ n → IsOutputFrom design.outputs places k moved
     → All (λ (o : Output). o.signal < n) design.outputs → moved.signal < n
 output_within design places k moved n le h all =

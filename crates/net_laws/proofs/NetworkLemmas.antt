@@ -83,6 +83,7 @@ pin_not_all : (b : BlifValue) (node pin : ℕ) → IsFirstUndrivenPin b node pin
 pin_not_all b node pin h all =
     missing_not_all (signal_names b) (get_or b.covers node no_cover).ins pin h.here (all node no_cover h.within)
 
+-- of two first undriven pins neither is in an earlier node
 pin_not_earlier : (b : BlifValue) (node pin other place : ℕ) → IsFirstUndrivenPin b node pin → IsFirstUndrivenPin b other place → node < other → ⊥
 pin_not_earlier b node pin other place h k below =
     let size = length-take-le other b.covers (omega (arith, k.within)) in

@@ -26,9 +26,11 @@ name_cases names x =
     let d = is_member-Decides bytes_eq-Decides names x in
     ⊎_elim (λ yes. inl (d.0 yes)) (λ no. inr (λ c. both_ways (is_member bytes_eq names x) no (d.1 c))) (cases_Bool (is_member bytes_eq names x))
 
+-- a name that isn't there is missing at once
 first_is_missing : (names wanted : List (List ℕ)) (x : List ℕ) → (Contains names x → ⊥) → IsFirstMissing names (x ∷ wanted) 0
 first_is_missing names wanted x none = record { within = omega arith; earlier = All-nil (Contains names); here = none }
 
+-- where the first name is there, the first missing one is among the others
 later_is_missing : (names wanted : List (List ℕ)) (x : List ℕ) (place : ℕ) → Contains names x → IsFirstMissing names wanted place
     → IsFirstMissing names (x ∷ wanted) (suc place)
 later_is_missing names wanted x place there h = record {
@@ -53,6 +55,7 @@ places_or_missing names (x ∷ wanted) =
 pub missing_not_all : (names wanted : List (List ℕ)) (place : ℕ) → IsFirstMissing names wanted place → All (Contains names) wanted → ⊥
 missing_not_all names wanted place h all = h.here (all place [] h.within)
 
+-- of two first missing names neither is earlier
 missing_not_earlier : (names wanted : List (List ℕ)) (p q : ℕ) → IsFirstMissing names wanted p → IsFirstMissing names wanted q → p < q → ⊥
 missing_not_earlier names wanted p q h k below =
     let size = length-take-le q wanted (omega (arith, k.within)) in
@@ -66,6 +69,7 @@ missing_unique names wanted p q h k =
     (λ apart. ⊎_elim (λ below. absurd (missing_not_earlier names wanted p q h k below)) (λ above. absurd (missing_not_earlier names wanted q p k h above)) apart)
     (cases_order p q)
 
+-- among distinct names each wanted one stands at one place
 places_unique : (names : List (List ℕ)) (p q : List ℕ) (wanted : List (List ℕ)) → IsDistinct bytes_eq names → StandAt names p wanted → StandAt names q wanted
     → p ≡ q
 places_unique names [] [] wanted h a b = refl
@@ -90,6 +94,7 @@ same_count names others d e forth back =
 same_name : (names : List (List ℕ)) (i j : ℕ) (x y : List ℕ) → i ≡ j → slice_get names i ≡ Some x → slice_get names j ≡ Some y → x ≡ y
 same_name names i j x y same at_i at_j = same_Some x y (sym at_i ∙ ap (slice_get names) same ∙ at_j)
 
+-- each output has a name
 length-output_names : (net : Network) → length (output_names net) ≡ length net.outputs
 length-output_names net = length-map net.outputs (λ (o : Output). o.name)
 
@@ -165,9 +170,11 @@ interface_exists spec design =
 no_spec_input : (spec design : Network) (p : PlacePairs) → IsPairing spec design p → All (Contains design.inputs) spec.inputs
 no_spec_input spec design p h = All-standing design.inputs p.inputs spec.inputs h.inputs
 
+-- where nets pair, no output of the specification is missing
 no_spec_output : (spec design : Network) (p : PlacePairs) → IsPairing spec design p → All (Contains (output_names design)) (output_names spec)
 no_spec_output spec design p h = All-standing (output_names design) p.outputs (output_names spec) h.outputs
 
+-- pairs of the same places are the same
 same_pairs : (p q : PlacePairs) → p.inputs ≡ q.inputs → p.outputs ≡ q.outputs → p ≡ q
 same_pairs p q d e =
     let pairs : List ℕ → List ℕ → PlacePairs = λ inputs outputs. record { inputs = inputs; outputs = outputs } in

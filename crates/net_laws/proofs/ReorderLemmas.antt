@@ -14,6 +14,7 @@ StandAt-map list [] within = tt
 StandAt-map list (k ∷ ks) within =
     (slice_get-get_or list k 0 (All-head (λ k. k < length list) k ks within), StandAt-map list ks (All-tail (λ k. k < length list) k ks within))
 
+-- what is found at each place in turn stands at the places
 StandAt-from_places : (list places found : List ℕ) → length found ≡ length places
     → ((i : ℕ) → i < length places → slice_get list (get_or places i 0) ≡ Some (get_or found i 0)) → StandAt list places found
 StandAt-from_places list [] [] size each = tt
@@ -27,6 +28,7 @@ record Puts (places x : List ℕ) (m : ℕ) (u : List ℕ) : Type 0 where
   as_many : length u ≡ m
   each : (i : ℕ) → i < length places → get_or places i 0 < m → get_or u (get_or places i 0) 0 ≡ get_or x i 0
 
+-- a rearrangement has each place once
 same_index : (places : List ℕ) (i j : ℕ) → IsRearrangement (length places) places → i < length places → j < length places
     → get_or places i 0 ≡ get_or places j 0 → i ≡ j
 same_index places i j r i_lt j_lt e =
@@ -34,6 +36,7 @@ same_index places i j r i_lt j_lt e =
     (λ apart. ⊎_elim (λ below. absurd (r.distinct i j below j_lt e)) (λ above. absurd (r.distinct j i above i_lt (sym e))) apart)
     (cases_order i j)
 
+-- there is such a list for each m
 puts : (places x : List ℕ) → IsRearrangement (length places) places → (m : ℕ) → m ≤ length places → (u : List ℕ) × Puts places x m u
 puts places x r zero le = ([], record { as_many = refl; each = λ i lt none. absurd (omega arith) })
 puts places x r (suc m) le =

@@ -13,12 +13,15 @@ use Rattle.net_defs.specs.declared.specification.SpecError.{SpecError}
 use Rattle.net_defs.specs.declared.specification.SpecError.TheVariants.{Text, Network as NetworkFault, NoMemory}
 use Rattle.net_laws.proofs.NetworkLemmas.{net_exists, net_is_unique}
 
+-- the design of a text, or its fault
 abbrev Read : Type 0
 Read = Result BlifValue BlifError
 
+-- the network of a design, or its fault
 abbrev Built : Type 0
 Built = Result Network NetError
 
+-- the network that a text specifies, or the fault
 abbrev Specified : Type 0
 Specified = Result Network SpecError
 
@@ -27,6 +30,7 @@ of_built : (text : List ℕ) (design : BlifValue) (r : Built) → BlifText text 
 of_built text design (Ok net) reads builds = (Ok net, record { design = design; reads = reads; builds = builds })
 of_built text design (Err fault) reads builds = (Err (NetworkFault fault), (design, reads, builds))
 
+-- where a text is read, it specifies a network or has a fault
 of_read : (text : List ℕ) (r : Read) → BlifOf text r → (s : Specified) × SpecificationOf text s
 of_read text (Ok design) h = let built = net_exists design in of_built text design built.0 h built.1
 of_read text (Err fault) h = (Err (Text fault), h)
@@ -35,33 +39,43 @@ of_read text (Err fault) h = (Err (Text fault), h)
 pub specification_exists : (text : List ℕ) → (s : Specified) × SpecificationOf text s
 specification_exists text = let read = reading_exists text in of_read text read.0 read.1
 
+-- a text with this design
 abbrev read_ok : BlifValue → Read
 read_ok m = Ok m
 
+-- a text with this fault
 abbrev read_err : BlifError → Read
 read_err fault = Err fault
 
+-- a design with this network
 abbrev built_ok : Network → Built
 built_ok net = Ok net
 
+-- a design with this fault
 abbrev built_err : NetError → Built
 built_err fault = Err fault
 
+-- one reading has one design
 same_design : (m n : BlifValue) → read_ok m ≡ read_ok n → m ≡ n
 same_design m n e = cc
 
+-- or one fault
 same_fault : (f g : BlifError) → read_err f ≡ read_err g → f ≡ g
 same_fault f g e = cc
 
+-- and not both
 value_no_fault : (m : BlifValue) (f : BlifError) → read_ok m ≡ read_err f → ⊥
 value_no_fault m f e = cc
 
+-- one design has one network
 same_net : (m n : Network) → built_ok m ≡ built_ok n → m ≡ n
 same_net m n e = cc
 
+-- or one fault
 same_net_fault : (f g : NetError) → built_err f ≡ built_err g → f ≡ g
 same_net_fault f g e = cc
 
+-- and not both
 net_no_fault : (net : Network) (f : NetError) → built_ok net ≡ built_err f → ⊥
 net_no_fault net f e = cc
 

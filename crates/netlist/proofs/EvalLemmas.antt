@@ -105,9 +105,11 @@ outputs-all bits s outputs o e le h =
     ∙ ap (λ l. map (λ (p : Output). get_or s p.signal 0) l) (take_all o outputs le)
     ∙ bits_of_outputs s outputs
 
+-- signals below n have the same bits in two lists that agree there
 bits_at-within : (p q ss : List ℕ) (n : ℕ) → SameBits n p q → All (λ s. s < n) ss → bits_at p ss ≡ bits_at q ss
 bits_at-within p q ss n h within = bits_at-same p q ss (λ k d lt. h (get_or ss k d) (within k d lt))
 
+-- outputs within the network show signals of it
 signals_within : (outputs : List Output) (n : ℕ) → All (λ (o : Output). o.signal < n) outputs → All (λ s. s < n) (map (λ (o : Output). o.signal) outputs)
 signals_within outputs n h = All-map (λ s. s < n) (λ (o : Output). o.signal) outputs h
 

@@ -25,15 +25,18 @@ slice_get-push xs y =
 Finds : List (List ℕ) → List ℕ → Option ℕ → Type 0
 Finds names q answer = MatchOption answer (¬ Contains names q) (λ s. slice_get names s ≡ Some q)
 
+-- a new name is found at the end
 finds_new : (names : List (List ℕ)) (y q : List ℕ) → y ≡ q → Finds (names ++ y ∷ []) q (Some (length names))
 unfolding Finds
 finds_new names y q e = slice_get-push names y ∙ ap Some e
 
+-- other names are found where they were
 finds_other : (names : List (List ℕ)) (y q : List ℕ) (answer : Option ℕ) → (y ≡ q → ⊥) → Finds names q answer → Finds (names ++ y ∷ []) q answer
 unfolding Finds
 finds_other names y q None ne h = λ c. ⊎_elim h ne (Contains-push_cases names y q c)
 finds_other names y q (Some s) ne h = slice_get-append_left names (y ∷ []) s q h
 
+-- so each name is found after one more was put in
 finds_next : (names : List (List ℕ)) (y q : List ℕ) (answer : Option ℕ) (b : Bool) → bytes_eq y q ≡ b → Finds names q answer
     → Finds (names ++ y ∷ []) q (cond b (Some (length names)) answer)
 finds_next names y q answer true is h = finds_new names y q ((bytes_eq-Decides y q).0 is)

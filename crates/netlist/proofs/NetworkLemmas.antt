@@ -33,17 +33,21 @@ length-signal_names b net h =
     let i = ap length h.inputs in
     omega (arith, e, n, i)
 
+-- a signal with a name is one of the network
 named_within : (b : BlifValue) (net : Network) (name : List ℕ) (s : ℕ) → IsNetworkOf b net → IsNameOf b name s → s < signals net
 named_within b net name s h at = omega (arith, slice_get_within (signal_names b) s name at, length-signal_names b net h)
 
+-- so are the fan-ins of a node
 fan_ins_within : (b : BlifValue) (net : Network) (cover : CoverValue) (node : Node) → IsNetworkOf b net → IsNodeOf b cover node
     → All (λ s. s < signals net) node.fan_ins
 fan_ins_within b net cover node h at =
     all_zip-right (IsNameOf b) (λ s. s < signals net) cover.ins node.fan_ins (λ name s. named_within b net name s h) at.fan_ins []
 
+-- each cover of a design is one within the limits
 cover_at : (b : BlifValue) (v : ℕ) → IsBlif b → v < length b.covers → (d : CoverValue) → IsCover (get_or b.covers v d)
 cover_at b v is lt d = All-from_recursion IsCover b.covers is.covers v d lt
 
+-- a node that is built of a cover is within the limits
 is_node : (b : BlifValue) (net : Network) (cover : CoverValue) (node : Node) → IsNetworkOf b net → IsCover cover → IsNodeOf b cover node
     → IsNode (signals net) node
 is_node b net cover node h is at =
@@ -57,6 +61,7 @@ is_node b net cover node h is at =
       on = λ none. at.on ∙ is.on (sym at.rows ∙ none);
     }
 
+-- so are all nodes of a network that is built
 all_nodes : (b : BlifValue) (net : Network) → IsNetworkOf b net → IsBlif b → All (IsNode (signals net)) net.nodes
 all_nodes b net h is = λ v d lt.
     let lt2 : v < length b.covers = omega (arith, zip_length (IsNodeOf b) b.covers net.nodes h.nodes) in
@@ -90,6 +95,7 @@ IsDistinct-front xs ys h = IsDistinct-from_apart bytes_eq xs (λ i j d below lt.
     let Q : List ℕ → Type 0 = λ l. bytes_eq (get_or (xs ++ ys) i d) l ≡ false in
     subst P e (subst Q f (apart_from_distinct bytes_eq (xs ++ ys) i j d h below (omega (arith, length-append xs ys)))))
 
+-- the outputs that are built have the names of the design's
 output_names-of : (b : BlifValue) (names : List (List ℕ)) (outputs : List Output) → AllZip (IsOutputOf b) names outputs
     → map (λ (o : Output). o.name) outputs ≡ names
 output_names-of b [] [] h = refl
@@ -97,6 +103,7 @@ output_names-of b [] (o ∷ os) h = absurd h
 output_names-of b (n ∷ ns) [] h = absurd h
 output_names-of b (n ∷ ns) (o ∷ os) h = ap (λ l. o.name ∷ l) (output_names-of b ns os h.1) ∙ ap (λ m. m ∷ ns) h.0.name
 
+-- the rows that are built are as many and as long as those of the covers
 same_size : (b : BlifValue) (covers : List CoverValue) (nodes : List Node) → AllZip (IsNodeOf b) covers nodes
     → sum_by (λ (node : Node). rows_size node.rows) nodes ≡ sum_by (λ (c : CoverValue). rows_size c.rows) covers
 same_size b [] [] h = refl

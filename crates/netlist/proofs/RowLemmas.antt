@@ -7,10 +7,12 @@ use Rattle.net_defs.specs.Networks.{Node, Network}
 use Rattle.blif_defs.specs.Values.{rows_size}
 use Rattle.net_defs.specs.Nets.{IsNet}
 
+-- each row counts at least one in the size of rows
 length-le-rows_size : (rows : List (List Mark)) → length rows ≤ rows_size rows
 length-le-rows_size [] = omega arith
 length-le-rows_size (row ∷ rows) = omega (arith, sum_by-cons (λ (r : List Mark). length r + 2) row rows, length-le-rows_size rows)
 
+-- so the rows of all nodes are no more than their size
 row_count-le : (nodes : List Node) → sum_by (λ (node : Node). length node.rows) nodes ≤ sum_by (λ (node : Node). rows_size node.rows) nodes
 row_count-le [] = omega arith
 row_count-le (n ∷ ns) =

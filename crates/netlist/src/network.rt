@@ -75,7 +75,11 @@ impl Model for Network {
 
     ghost Value = { Network };
 
-    ghost view = { λ p. record { inputs = p.inputs.items; nodes = p.nodes.items; outputs = p.outputs.items } };
+    ghost view = { λ p. record {
+        inputs = p.inputs.items;
+        nodes = p.nodes.items;
+        outputs = p.outputs.items;
+    } };
 }
 
 impl Network {

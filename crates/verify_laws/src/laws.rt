@@ -18,8 +18,8 @@ ghost use Rattle.verify_defs.specs.declared.refusal.Refusal.{Refusal};
 /// A net equals the configuration of each bundle that is accepted for it: for every input the output
 /// pads have the outputs of the net.
 pub fn accepted_is_equal()
-    ensures { (g : GeometryValue) (net : Network) (bytes : List ℕ) (config : ConfigValue) → IsNet net
-        → AcceptsWith g net bytes config → Equal net config }
+    ensures { (g : GeometryValue) (net : Network) (bytes : List ℕ) (config : ConfigValue)
+        → IsNet net → AcceptsWith g net bytes config → Equal net config }
 {}
 
 /// Bytes are a bundle for one fabric, and have one configuration, one trace and one list of cells.
@@ -52,6 +52,7 @@ pub fn compacted_is_accepted()
     ensures { (bytes : List ℕ) (bundle : BundleValue) (steps : List Entry)
         → BundleText bytes bundle → bundle.version ≡ 1 → TraceText bundle.trace 1 steps
         → length bundle.trace < MAX_TRACE_BYTES
-        → (g : GeometryValue) (net : Network) (config : ConfigValue) → AcceptsWith g net bytes config
+        → (g : GeometryValue) (net : Network) (config : ConfigValue)
+        → AcceptsWith g net bytes config
         → AcceptsWith g net (bundle_bytes (compacted_bundle bundle steps)) config }
 {}

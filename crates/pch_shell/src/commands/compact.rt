@@ -56,7 +56,8 @@ fn compacted(alloc: Global, bundle: Bundle<'_>, steps: Trace) -> Result<Ending, 
 
 /// The bundle has a fault, or isn't of the version that is wanted.
 fn bad_bundle(alloc: Global, name: &str, error: BundleError) -> Result<Ending, NoMemory>
-    ensures { IfOk result (λ e. e ≡ bad_input (bundle_line (and_word (codes "bundle") name.now) error)) }
+    ensures { IfOk result (λ e.
+        e ≡ bad_input (bundle_line (and_word (codes "bundle") name.now) error)) }
 {
     let front = Line::new(alloc, "bundle")?.word(name)?;
     Ok(Ending::bad_input(bundle_line(front, error)?))
@@ -65,7 +66,8 @@ fn bad_bundle(alloc: Global, name: &str, error: BundleError) -> Result<Ending, N
 /// The trace in the bundle has a fault.
 fn bad_trace(alloc: Global, name: &str, error: TraceError) -> Result<Ending, NoMemory>
     ensures ending { IfOk result (λ e.
-        e ≡ bad_input (trace_line (and_word (and_word (codes "bundle") name.now) (codes "trace")) error)) }
+        e ≡ bad_input
+            (trace_line (and_word (and_word (codes "bundle") name.now) (codes "trace")) error)) }
     ensures fault { IfOk result (λ _. error ≢ TraceError.NoMemory) }
 {
     let front = Line::new(alloc, "bundle")?.word(name)?.word("trace")?;

@@ -7,12 +7,14 @@ use Rattle.netlist.specs.Places.{bit_of}
 use Rattle.netlist.proofs.EvalLemmas.{outputs-more, outputs-all}
 use Rattle.netlist.proofs.eval.output_bits.Goals as goal
 
+-- there is a bit for each output from the start
 pub loop-o-init : goal.loop-o-init
 loop-o-init c = record {
   all = ap length c.new-bits.ensures ∙ length-bits_of _ 0;
   done = refl;
 }
 
+-- an output takes the bit of its signal
 pub loop-o-preserved : goal.loop-o-preserved
 loop-o-preserved c =
     let outputs = c.outputs-outputs.result.now in
@@ -26,6 +28,7 @@ loop-o-preserved c =
           ∙ outputs-more c.loop-o.bits c.args.s.now outputs c.loop-o.o (bit_of c.get.result) item inside (omega arith) at c.loop-o.invariant.done;
     }
 
+-- so all outputs have the bits of their signals
 pub returns : goal.returns
 returns c =
     outputs-all c.loop-o.bits c.args.s.now c.outputs-outputs.result.now c.loop-o.o c.loop-o.invariant.all (omega arith) c.loop-o.invariant.done

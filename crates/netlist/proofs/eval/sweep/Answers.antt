@@ -6,6 +6,7 @@ use Rattle.netlist.specs.Places.{bit_of}
 use Rattle.netlist.proofs.EvalLemmas.{Swept, Swept-more, Swept-all}
 use Rattle.netlist.proofs.eval.sweep.Goals as goal
 
+-- a node whose fan-ins were swept takes its bit
 pub loop-v-preserved : goal.loop-v-preserved
 loop-v-preserved c =
     let net = c.args.network.now in
@@ -31,6 +32,7 @@ loop-v-preserved c =
           (c.loop-v.invariant.swept x a settles same) lt refl places bit_is);
     }
 
+-- so after the last node all have the bits of the assignment
 pub returns-clause-complete : goal.returns-clause-complete
 returns-clause-complete c = λ x a settles same.
     Swept-all c.args.network.now c.args.order.now c.loop-v.s a c.loop-v.v-index c.requires.order (c.loop-v.invariant.swept x a settles same) (omega arith)

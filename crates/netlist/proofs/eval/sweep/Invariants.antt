@@ -4,6 +4,7 @@ use Rattle.netlist.specs.Places.{SameBits}
 use Rattle.netlist.proofs.EvalLemmas.{Swept}
 use Rattle.netlist.proofs.eval.sweep.Given as goal
 
+-- the nodes of the order so far have the bits of each assignment that agrees at the inputs
 abbrev pub invariant-loop-v : goal.invariant-loop-v
 invariant-loop-v l = record {
   places : length l.s ≡ length l.fn.s;

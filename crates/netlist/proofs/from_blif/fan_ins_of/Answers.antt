@@ -7,6 +7,7 @@ use Rattle.netlist.proofs.BuildLemmas.{name_found, name_missing, first_missing}
 use Rattle.netlist.proofs.ZipLemmas.{all_zip-more}
 use Rattle.netlist.proofs.from_blif.fan_ins_of.Goals as goal
 
+-- a pin whose name the index doesn't find is the first undriven one
 pub returns-in_default : goal.returns-in_default
 returns-in_default c = λ b h.
     let names = signal_names b in
@@ -23,6 +24,7 @@ returns-in_default c = λ b h.
           (name_missing c.args.index.now names c.bytes.result.now h missing),
     )
 
+-- the signal that is found is the one with the pin's name
 pub loop-pin-preserved : goal.loop-pin-preserved
 loop-pin-preserved c = λ b h.
     let ins = c.args.ins.now in

@@ -5,5 +5,6 @@ use Rattle.net_defs.specs.NetOf.{signal_names, IsNameOf}
 use Rattle.netlist.specs.Index.{IsIndexOf}
 use Rattle.netlist.proofs.from_blif.fan_ins_of.Given as goal
 
+-- the signals so far are those with the names of the pins
 abbrev pub invariant-loop-pin : goal.invariant-loop-pin
 invariant-loop-pin l = (b : BlifValue) → IsIndexOf l.index (signal_names b) → AllZip (IsNameOf b) (take l.pin l.ins) l.signals.items

@@ -3,6 +3,7 @@ use Rattle.std.proofs.lemmas.List.{get_or_read}
 use Rattle.netlist.proofs.BuildLemmas.{index_names-more}
 use Rattle.netlist.proofs.from_blif.index_names.Goals as goal
 
+-- one name more is in the index at its place
 pub loop-i-preserved : goal.loop-i-preserved
 loop-i-preserved c =
     let names = c.args.names.now in

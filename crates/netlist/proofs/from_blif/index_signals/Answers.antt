@@ -6,6 +6,7 @@ use Rattle.net_defs.specs.NetOf.{no_cover}
 use Rattle.netlist.proofs.BuildLemmas.{index_signals-more}
 use Rattle.netlist.proofs.from_blif.index_signals.Goals as goal
 
+-- the output of one cover more is in the index behind the inputs
 pub loop-v-preserved : goal.loop-v-preserved
 loop-v-preserved c =
     let covers = c.as_slice-covers.result.now in

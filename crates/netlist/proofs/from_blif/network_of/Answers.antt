@@ -10,6 +10,7 @@ use Rattle.blif_read.specs.declared.cover.Cover.{Cover}
 use Rattle.netlist.proofs.NetworkLemmas.{NetworkOf-nodes, NetworkOf-outputs}
 use Rattle.netlist.proofs.from_blif.network_of.Goals as goal
 
+-- a cover of a design has few inputs
 pub nodes_of-requires-clause-short : goal.nodes_of-requires-clause-short
 nodes_of-requires-clause-short c = λ k d lt.
     let covers = c.as_slice.result.now in
@@ -19,12 +20,14 @@ nodes_of-requires-clause-short c = λ k d lt.
     let lt2 : k < length (map cover_of covers) = omega (arith, length-map covers cover_of) in
     subst P (get_or-map cover_of covers k d (cover_of d) lt) (all k (cover_of d) lt2).within
 
+-- the first undriven pin is the fault of the design
 pub returns-in_err-nodes : goal.returns-in_err-nodes
 returns-in_err-nodes c = λ h.
     let b = blif_of c.args.b.now in
     let p = err_from_is_err_and c.from_residual.result c.from_residual.ensures.1 in
     rw (p.1, p.2) (NetworkOf-nodes b c.in_err-nodes.field-0.0 (c.in_err-nodes.ensures b h (ap (map cover_of) (sym c.as_slice.ensures))))
 
+-- so is the first undriven output, where all nodes are built
 pub returns-in_err-outputs : goal.returns-in_err-outputs
 returns-in_err-outputs c = λ h.
     let b = blif_of c.args.b.now in
@@ -34,6 +37,7 @@ returns-in_err-outputs c = λ h.
     (c.in_ok-nodes.ensures b h (ap (map cover_of) (sym c.as_slice.ensures)))
     (c.in_err-outputs.ensures b h (sym c.as_slice-2.ensures)))
 
+-- inputs, nodes and outputs make up the network of the design
 pub returns : goal.returns
 returns c = λ h.
     let b = blif_of c.args.b.now in

@@ -8,6 +8,7 @@ use Rattle.netlist.proofs.BuildLemmas.{NodesOf-err}
 use Rattle.netlist.proofs.ZipLemmas.{all_zip-more}
 use Rattle.netlist.proofs.from_blif.nodes_of.Goals as goal
 
+-- an undriven pin behind nodes that were built is the first
 pub returns-in_err-node_of : goal.returns-in_err-node_of
 returns-in_err-node_of c = λ b h same.
     let covers = c.args.covers.now in
@@ -21,6 +22,7 @@ returns-in_err-node_of c = λ b h same.
     (NodesOf-err b (map cover_of covers) v (cover_of item) c.loop-v.nodes.items c.in_err-node_of.field-0.0 same
     (omega (arith, length-map covers cover_of)) (c.loop-v.invariant b h) at (c.in_err-node_of.ensures b h))
 
+-- the node that was built is that of its cover
 pub loop-v-preserved : goal.loop-v-preserved
 loop-v-preserved c = λ b h.
     let covers = c.args.covers.now in

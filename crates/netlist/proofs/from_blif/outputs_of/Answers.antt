@@ -9,6 +9,7 @@ use Rattle.netlist.proofs.BuildLemmas.{name_found, name_missing, first_missing}
 use Rattle.netlist.proofs.ZipLemmas.{all_zip-more}
 use Rattle.netlist.proofs.from_blif.outputs_of.Goals as goal
 
+-- an output whose name the index doesn't find is the first undriven one
 pub returns-in_default : goal.returns-in_default
 returns-in_default c = λ b h same.
     let names = signal_names b in
@@ -26,6 +27,7 @@ returns-in_default c = λ b h same.
           (name_missing c.args.index.now names c.bytes.result.now h missing)),
     )
 
+-- the output has the name, and the signal that is found under it
 pub loop-o-preserved : goal.loop-o-preserved
 loop-o-preserved c = λ b h.
     let wanted = c.args.names.now in

@@ -5,5 +5,6 @@ use Rattle.net_defs.specs.NetOf.{signal_names, IsOutputOf}
 use Rattle.netlist.specs.Index.{IsIndexOf}
 use Rattle.netlist.proofs.from_blif.outputs_of.Given as goal
 
+-- the outputs so far are those of the design
 abbrev pub invariant-loop-o : goal.invariant-loop-o
 invariant-loop-o l = (b : BlifValue) → IsIndexOf l.index (signal_names b) → AllZip (IsOutputOf b) (take l.o l.names) l.outputs.items

@@ -3,6 +3,7 @@ use Rattle.std.proofs.lemmas.Option.{slice_get_read}
 use Rattle.netlist.proofs.ZipLemmas.{all_zip-more}
 use Rattle.netlist.proofs.moves.names_at.Goals as goal
 
+-- one name more is copied from its place
 pub loop-place-preserved : goal.loop-place-preserved
 loop-place-preserved c =
     let names = c.args.names.now in

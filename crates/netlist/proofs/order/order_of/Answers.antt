@@ -2,6 +2,7 @@ use Rattle.std.proofs.Common.{ap, arith, rules, length, inr, refl}
 use Rattle.netlist.proofs.SearchLemmas.{done_settled, finished}
 use Rattle.netlist.proofs.order.order_of.Goals as goal
 
+-- the first node that can't be settled is the cycle's
 pub returns-then-not-branch : goal.returns-then-not-branch
 returns-then-not-branch c =
     let s = c.loop-v.sorting in
@@ -15,6 +16,7 @@ returns-then-not-branch c =
       },
     )
 
+-- where all nodes are closed, they stand in order
 pub returns : goal.returns
 returns c =
     let s = c.loop-v.sorting in

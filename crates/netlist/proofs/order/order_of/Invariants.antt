@@ -4,6 +4,7 @@ use Rattle.netlist.specs.Searches.{IsSound}
 use Rattle.netlist.specs.declared.order.State.TheVariants.{Done}
 use Rattle.netlist.proofs.order.order_of.Given as goal
 
+-- the nodes so far are closed, and the stack is empty
 abbrev pub invariant-loop-v : goal.invariant-loop-v
 invariant-loop-v l = record {
   sound : IsSound l.network l.sorting;

@@ -6,6 +6,7 @@ use Rattle.netlist.specs.declared.ports.Unpaired.TheVariants.{Missing}
 use Rattle.netlist.proofs.PartnerLemmas.{InterfaceOf-input}
 use Rattle.netlist.proofs.pairing.pair_inputs.Goals as goal
 
+-- the places are those of the specification's inputs
 pub returns-in-Ok : goal.returns-in-Ok
 returns-in-Ok c =
     let places = c.in-Ok.places.items in
@@ -15,6 +16,7 @@ returns-in-Ok c =
     let Q : List (List ℕ) → Type 0 = λ names. StandAt names places wanted × All (Contains wanted) names in
     subst Q c.inputs-2.ensures (subst P c.inputs.ensures c.in-Ok.ensures)
 
+-- an input without a partner is the interface's first fault
 pub returns-in-Err-Missing : goal.returns-in-Err-Missing
 returns-in-Err-Missing c =
     let side = c.in-Err-Missing.side in

@@ -8,6 +8,7 @@ use Rattle.netlist.specs.declared.ports.Unpaired.TheVariants.{Missing}
 use Rattle.netlist.proofs.PartnerLemmas.{InterfaceOf-output}
 use Rattle.netlist.proofs.pairing.pair_outputs.Goals as goal
 
+-- the places are those of the specification's outputs
 pub returns-in-Ok : goal.returns-in-Ok
 returns-in-Ok c =
     let places = c.in-Ok.places.items in
@@ -18,6 +19,7 @@ returns-in-Ok c =
     let Q : List Output → Type 0 = λ outputs. StandAt (names outputs) places wanted × All (Contains wanted) (names outputs) in
     subst Q c.outputs-2.ensures (subst P c.outputs.ensures c.in-Ok.ensures)
 
+-- an output without a partner is the first fault where the inputs have theirs
 pub returns-in-Err-Missing : goal.returns-in-Err-Missing
 returns-in-Err-Missing c =
     let side = c.in-Err-Missing.side in

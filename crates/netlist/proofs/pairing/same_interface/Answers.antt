@@ -8,6 +8,7 @@ use Rattle.net_laws.proofs.PlaceLemmas.{All-standing}
 use Rattle.net_laws.proofs.PairingLemmas.{Pairs-paired}
 use Rattle.netlist.proofs.pairing.same_interface.Goals as goal
 
+-- the inputs have partners, so the fault of the outputs is the first
 pub returns-in_err-outputs-clause-answer : goal.returns-in_err-outputs-clause-answer
 returns-in_err-outputs-clause-answer c =
     let spec = c.network-wanted.result.now in
@@ -20,6 +21,7 @@ returns-in_err-outputs-clause-answer c =
     let answer : OrMemory NoMemory (InterfaceOf spec design) (Err e) = ⊎_elim (λ memory. inl memory) (λ fault. inr (fault same)) c.in_err-outputs.ensures in
     rw (p.1, p.2) (subst Q c.network-there.ensures.network (subst P c.network-wanted.ensures.network answer))
 
+-- the places of both sides make up the pairing
 pub returns-clause-answer : goal.returns-clause-answer
 returns-clause-answer c =
     let spec = c.network-wanted.result.now in
@@ -35,5 +37,6 @@ returns-clause-answer c =
     } in
     subst Q c.network-there.ensures.network (subst P c.network-wanted.ensures.network pairing)
 
+-- and the pairing pairs the places of two nets
 pub returns-clause-pairs : goal.returns-clause-pairs
 returns-clause-pairs c = Pairs-paired c.args.spec.now c.args.design.now _ c.network-wanted.ensures.net c.network-there.ensures.net (returns-clause-answer c)

@@ -4,6 +4,7 @@ use Rattle.netlist.specs.Partners.{port_names}
 use Rattle.netlist.proofs.PartnerLemmas.{GivesPartners-back}
 use Rattle.netlist.proofs.ports.partners.Goals as goal
 
+-- where the way there was found, the fault of the way back is the first
 pub returns-in_err-_back : goal.returns-in_err-_back
 returns-in_err-_back c =
     let spec = port_names c.args.spec.now in
@@ -12,6 +13,7 @@ returns-in_err-_back c =
     rw (p.1, p.2)
     (GivesPartners-back spec design c.in_err-_back.field-0.0 (All-standing design c.in_ok-places.places.items spec c.in_ok-places.ensures) c.in_err-_back.ensures)
 
+-- the names stand on both sides
 pub returns : goal.returns
 returns c =
     let spec = port_names c.args.spec.now in

@@ -7,6 +7,7 @@ use Rattle.netlist.proofs.BuildLemmas.{name_found, name_missing, first_missing}
 use Rattle.netlist.proofs.PartnerLemmas.{StandAt-more}
 use Rattle.netlist.proofs.ports.places_of.Goals as goal
 
+-- a name that the index doesn't find is the first missing one
 pub returns-in_default : goal.returns-in_default
 returns-in_default c =
     let names = port_names c.args.names.now in
@@ -20,6 +21,7 @@ returns-in_default c =
           (name_missing c.in_ok-index.index names name c.in_ok-index.ensures missing),
     )
 
+-- the place that is found is that of the name
 pub loop-i-preserved : goal.loop-i-preserved
 loop-i-preserved c =
     let names = port_names c.args.names.now in

@@ -4,6 +4,7 @@ use Rattle.std.proofs.lemmas.Slice.Eq.{slice_eq-Decides}
 use Rattle.blif_defs.specs.declared.mark.Mark.{Mark}
 use Rattle.netlist.proofs.equality.RowSameAs.is_equal.Goals as goal
 
+-- rows are the same where their marks are
 pub returns : goal.returns
 returns c =
     let P : List Mark → Type 0 = λ a. Decides c.eq.result (a ≡ c.args.other.now) in

@@ -3,6 +3,7 @@ use Rattle.net_defs.specs.Alignments.{IsMoved}
 use Rattle.netlist.proofs.ZipLemmas.{all_zip-more}
 use Rattle.netlist.proofs.moves.Moves.fan_ins.Goals as goal
 
+-- one fan-in more is moved to its new place
 pub loop-s-preserved : goal.loop-s-preserved
 loop-s-preserved c = λ places h.
     rw c.in_ok-push.ensures.items

@@ -5,6 +5,7 @@ use Rattle.net_defs.specs.Alignments.{IsMovedNode}
 use Rattle.netlist.proofs.ZipLemmas.{all_zip-more}
 use Rattle.netlist.proofs.moves.Moves.nodes.Goals as goal
 
+-- one node more has its fan-ins moved
 pub loop-node-preserved : goal.loop-node-preserved
 loop-node-preserved c = λ places h.
     let nodes = c.args.nodes.now in

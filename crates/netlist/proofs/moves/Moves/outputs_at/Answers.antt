@@ -4,6 +4,7 @@ use Rattle.net_defs.specs.Alignments.{IsOutputFrom}
 use Rattle.netlist.proofs.ZipLemmas.{all_zip-more}
 use Rattle.netlist.proofs.moves.Moves.outputs_at.Goals as goal
 
+-- one output more is moved from its place in the design
 pub loop-place-preserved : goal.loop-place-preserved
 loop-place-preserved c = λ places h.
     let outputs = c.args.outputs.now in

@@ -7,12 +7,14 @@ use Rattle.net_laws.proofs.AlignLemmas.{HasOutputsOf-aligned}
 use Rattle.netlist.proofs.MoveLemmas.{IsOrder-aligned}
 use Rattle.netlist.proofs.net.Net.aligned.Goals as goal
 
+-- aligning keeps a network within the limits
 pub new-requires-clause-net : goal.new-requires-clause-net
 new-requires-clause-net c =
     let P : Network → Type 0 = λ m. IsAligned m c.args.p.now c.in_ok-network.network in
     IsNet-aligned c.args.self.now c.args.p.now c.in_ok-network.network c.order.ensures.net c.requires
     (subst P c.network.ensures.network c.in_ok-network.ensures)
 
+-- and its nodes in their order
 pub new-requires-clause-order : goal.new-requires-clause-order
 new-requires-clause-order c =
     let P : Network → Type 0 = λ m. IsAligned m c.args.p.now c.in_ok-network.network in
@@ -22,6 +24,7 @@ new-requires-clause-order c =
     (IsOrder-aligned c.args.self.now c.args.p.now c.in_ok-network.network c.order.result.now c.requires
     (subst P c.network.ensures.network c.in_ok-network.ensures) c.order.ensures.order)
 
+-- and its outputs, up to their order
 pub returns-clause-outputs : goal.returns-clause-outputs
 returns-clause-outputs c =
     let P : Network → Type 0 = λ m. IsAligned m c.args.p.now c.in_ok-network.network in

@@ -4,6 +4,7 @@ use Rattle.net_defs.specs.Evaluation.{SpecOut}
 use Rattle.netlist.proofs.EvalLemmas.{SpecOut-evaluated}
 use Rattle.netlist.proofs.net.Net.eval.Goals as goal
 
+-- inputs, then nodes, then outputs have the bits of the assignment
 pub returns-clause-outputs : goal.returns-clause-outputs
 returns-clause-outputs c =
     let P : Network → Type 0 = λ m. SpecOut m c.args.x c.output_bits.result in

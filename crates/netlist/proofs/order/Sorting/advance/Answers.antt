@@ -7,6 +7,7 @@ use Rattle.netlist.proofs.SortingSteps.{IsSorting-opened, IsSorting-closed}
 use Rattle.netlist.proofs.SearchLemmas.{open_not_settled, work_passed, within_left, pin_within, needed_by_pin}
 use Rattle.netlist.proofs.order.Sorting.advance.Goals as goal
 
+-- a node whose pins were all looked at may be closed
 pub returns-then-pins-eq0-clause-sound : goal.returns-then-pins-eq0-clause-sound
 returns-then-pins-eq0-clause-sound c =
     let s = c.args.self.now in
@@ -18,6 +19,7 @@ returns-then-pins-eq0-clause-sound c =
     rw (e.states, e.left, e.stack, e.order)
     (IsSorting-closed c.args.network.now s.states.items s.left.items s.stack.items s.order.items c.args.v (length s.stack.items - 1) h size c.requires.last none)
 
+-- a node to which the pin leads may be opened
 pub returns-in_ok-open-in-New-clause-sound : goal.returns-in_ok-open-in-New-clause-sound
 returns-in_ok-open-in-New-clause-sound c =
     let s = c.args.self.now in
@@ -38,6 +40,7 @@ returns-in_ok-open-in-New-clause-sound c =
     (IsSorting-opened net s.states.items s.left.items s.stack.items s.order.items w h w_lt fresh
     (λ i i_is. needed_by_pin net s.stack.items v p w i i_is c.requires.last pin (sym c.fan_in-signal.ensures ∙ omega (arith, c.if-signal-inputs.false, n_is))))
 
+-- where the pin leads back to the stack, no open node is settled
 pub returns-in-Open-clause-cycle : goal.returns-in-Open-clause-cycle
 returns-in-Open-clause-cycle c = λ _ k u u_open settled.
     let s = c.args.self.now in
@@ -56,6 +59,7 @@ returns-in-Open-clause-cycle c = λ _ k u u_open settled.
     h c.requires.last pin (sym c.fan_in-signal.ensures) (omega (arith, c.if-signal-inputs.false, n_is))
     (subst P n_is is_open) k u u_open settled
 
+-- a pin to a closed node is one pin less to look at
 pub returns-in-Done-clause-less : goal.returns-in-Done-clause-less
 returns-in-Done-clause-less c = λ _.
     let s = c.args.self.now in
@@ -63,6 +67,7 @@ returns-in-Done-clause-less c = λ _.
     work_passed s.states.items s.left.items s.stack.items c.args.v c.index-pins.result.now lt
     (sym (get_or_read s.left.items c.args.v c.index-pins.result.now lt c.index-pins.ensures 0)) (omega arith)
 
+-- the last node of the stack has its count of pins
 pub index_mut-requires : goal.index_mut-requires
 index_mut-requires c =
     let s = c.args.self.now in

@@ -4,6 +4,7 @@ use Rattle.netlist.specs.declared.order.State.TheVariants.{Open}
 use Rattle.netlist.proofs.SearchLemmas.{opened_first}
 use Rattle.netlist.proofs.order.Sorting.settle.Goals as goal
 
+-- the stack begins with the root alone
 pub loop-v-init : goal.loop-v-init
 loop-v-init c =
     let s = c.args.self.now in
@@ -12,6 +13,7 @@ loop-v-init c =
     let b = opened_first c.args.network.now s.states.items s.left.items s.stack.items s.order.items c.args.root c.requires.sound c.requires.empty c.requires.within fresh in
     rw (e.states, e.left, e.stack, e.order) record { sound = b.sound; stays = b.stays; bottom = b.bottom; met = b.met }
 
+-- the root is open where the search met the stack again
 pub returns-then-not-branch-clause-unsettled : goal.returns-then-not-branch-clause-unsettled
 returns-then-not-branch-clause-unsettled c = λ _ k settled.
     let found : c.in_ok-advance.field-0 ≡ false = search rules in

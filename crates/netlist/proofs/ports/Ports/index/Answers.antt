@@ -4,6 +4,7 @@ use Rattle.netlist.specs.Partners.{port_names}
 use Rattle.netlist.proofs.BuildLemmas.{index_names-more}
 use Rattle.netlist.proofs.ports.Ports.index.Goals as goal
 
+-- one name more is in the index at its place
 pub loop-i-preserved : goal.loop-i-preserved
 loop-i-preserved c =
     let names = port_names c.args.self.now in

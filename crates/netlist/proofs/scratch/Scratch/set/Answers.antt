@@ -3,6 +3,7 @@ use Rattle.std.proofs.lemmas.List.{map-set}
 use Rattle.netlist.specs.Places.{bit_of}
 use Rattle.netlist.proofs.scratch.Scratch.set.Goals as goal
 
+-- the bit that is written stands at its signal alone
 pub returns : goal.returns
 returns c =
     map-set bit_of c.self.inside.bits.items c.args.signal c.args.bit

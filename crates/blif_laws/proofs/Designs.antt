@@ -197,24 +197,11 @@ names-IsDraft at d names e none h w k =
 
 -- ---- the other lines
 
--- a draft within the limits may take another word as its model's name
-named-IsDraft : (d : Draft) (name : List ℕ) → IsDraft d → (name ≡ []) ⊎ IsWord name → IsDraft (record d { model = name })
-named-IsDraft d name h w = record {
+-- a draft within the limits may take another word as its model's name, and be marked as begun or ended
+marked-IsDraft : (d : Draft) (name : List ℕ) (begun ended : Bool) → IsDraft d → (name ≡ []) ⊎ IsWord name
+    → IsDraft (record d { model = name; begun = begun; ended = ended })
+marked-IsDraft d name begun ended h w = record {
   model = w;
-  inputs = h.inputs;
-  inputs_within = h.inputs_within;
-  outputs = h.outputs;
-  outputs_within = h.outputs_within;
-  outputs_differ = h.outputs_differ;
-  covers = h.covers;
-  signals_within = h.signals_within;
-  signals_differ = h.signals_differ;
-}
-
--- and be marked as begun or ended
-marked-IsDraft : (d : Draft) (begun ended : Bool) → IsDraft d → IsDraft (record d { begun = begun; ended = ended })
-marked-IsDraft d begun ended h = record {
-  model = h.model;
   inputs = h.inputs;
   inputs_within = h.inputs_within;
   outputs = h.outputs;
@@ -235,13 +222,13 @@ model-IsDraft : (at : ℕ) (d : Draft) (names : List (List ℕ)) (e : Draft) →
 model-IsDraft at d names e h w k =
     let early = unless_ok d.begun (Unsupported at) _ e k in
     let one = passed (nat_le (length names) 1) (Syntax at) (Ok (record d { model = get_or names 0 [] })) e early.1 in
-    subst IsDraft (ok_is (record d { model = get_or names 0 [] }) e one.1) (named-IsDraft d (get_or names 0 []) h (first_name names w))
+    subst IsDraft (ok_is (record d { model = get_or names 0 [] }) e one.1) (marked-IsDraft d (get_or names 0 []) d.begun d.ended h (first_name names w))
 
 -- so does the line that ends it
 end-IsDraft : (at : ℕ) (d : Draft) (names : List (List ℕ)) (e : Draft) → IsDraft d → with_end at d names ≡ Ok e → IsDraft e
 end-IsDraft at d names e h k =
     let none = passed (length names == 0) (Syntax at) (Ok (record d { ended = true })) e k in
-    subst IsDraft (ok_is (record d { ended = true }) e none.1) (marked-IsDraft d d.begun true h)
+    subst IsDraft (ok_is (record d { ended = true }) e none.1) (marked-IsDraft d d.model d.begun true h h.model)
 
 -- ---- rows
 
@@ -323,7 +310,8 @@ words-IsDraft at d (first ∷ names) e h w k =
     let early = unless_ok d.ended (after_end (kind_of first) at) _ e sound.1 in
     let b = bind_ok (with_line (kind_of first) at d first names) (λ x. Ok (begun_with x)) e early.1 in
     let all = sound_words (first ∷ names) w sound.0 in
-    subst IsDraft (ok_is (begun_with b.0) e b.2) (marked-IsDraft b.0 true b.0.ended (line-IsDraft (kind_of first) at d first names b.0 h all.1 b.1))
+    let line = line-IsDraft (kind_of first) at d first names b.0 h all.1 b.1 in
+    subst IsDraft (ok_is (begun_with b.0) e b.2) (marked-IsDraft b.0 b.0.model true b.0.ended line line.model)
 
 -- so do lines one after the other
 lines-IsDraft : (d : Draft) (ss : List Statement) (e : Draft) → IsDraft d → AllByRecursion HasRawWords ss → Follows d ss e → IsDraft e

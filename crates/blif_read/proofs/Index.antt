@@ -18,6 +18,7 @@ pub known_more : {S : Type 0} (old new : HashSet (Bor (List ℕ)) S) (name : Bor
     → contains_by (λ k. bytes_eq q k.now) new ≡ cond (bytes_eq name.now q) true (contains_by (λ k. bytes_eq q k.now) old)
 known_more old new name u q = u.0 (record { ref_ptr = (0, 0); now = q })
 
+-- a test with another before it may ask that one first
 either_way : (a e c : Bool) → ((a || (e || false)) || c) ≡ cond e true (a || c)
 either_way true true c = refl
 either_way true false c = refl

@@ -26,6 +26,7 @@ is_feed b = b == 10
 abbrev pub lines : List ℕ → List (List ℕ)
 lines text = slice_split is_feed text
 
+-- what has no byte is empty
 none_left : (n : ℕ) → true ≡ (n == 0) → n ≡ 0
 none_left n e = grind (arith, nat_tests)
 
@@ -54,9 +55,11 @@ lines-some (b ∷ bs) = ⊎_elim (λ e. ([], lines bs, rw e refl)) (λ e. first_
     first_of_more : (b : ℕ) (bs : List ℕ) → is_feed b ≡ false → (l : List ℕ) × (ls : List (List ℕ)) × (lines bs ≡ l ∷ ls) → (l : List ℕ) × (ls : List (List ℕ)) × (lines (b ∷ bs) ≡ l ∷ ls)
     first_of_more b bs e s = (b ∷ s.0, s.1, rw e (ap (onto_first b) s.2))
 
+-- a line that was pushed, as an answer
 abbrev ok : Bool × List (List ℕ) → Result (Bool × List (List ℕ)) BlifError
 ok x = Ok x
 
+-- equal answers have equal lines
 ok_is : (x y : Bool × List (List ℕ)) → ok x ≡ ok y → x ≡ y
 ok_is x y e = cc
 
@@ -73,9 +76,11 @@ pushed_slice : (line : List ℕ) (pending : List (List ℕ)) (flag : Bool) (item
     → ok (joins line, pending ++ words (content line)) ≡ ok (flag, texts items) → texts slice ≡ pending ++ words (content line)
 pushed_slice line pending flag items slice slice-is e = ap texts slice-is ∙ pushed_words (joins line, pending ++ words (content line)) (flag, texts items) e
 
+-- a draft, as an answer
 abbrev ok_draft : Draft → Result Draft BlifError
 ok_draft d = Ok d
 
+-- equal answers have equal drafts
 draft_is : (d e : Draft) → ok_draft d ≡ ok_draft e → d ≡ e
 draft_is d e h = cc
 

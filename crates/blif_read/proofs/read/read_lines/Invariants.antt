@@ -17,5 +17,6 @@ invariant-lines l = record {
   bound : l.at + length l.rest ≤ length l.text + 1;
 }
 
+-- the rest of the text gets shorter
 abbrev pub decreases-lines : goal.decreases-lines
 decreases-lines l = length l.rest

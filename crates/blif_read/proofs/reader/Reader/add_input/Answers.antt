@@ -5,6 +5,7 @@ use Rattle.blif_read.specs.Views.{cover_of}
 use Rattle.blif_read.proofs.Index.{known_more, is_among_input, few_inputs}
 use Rattle.blif_read.proofs.reader.Reader.add_input.Goals as goal
 
+-- the index has the input more, and the signals stay few
 pub returns-clause-indexed : goal.returns-clause-indexed
 returns-clause-indexed c =
     let covers = map cover_of c.args.self.now.covers.items ++ option_to_list (option_map cover_of c.args.self.now.current) in

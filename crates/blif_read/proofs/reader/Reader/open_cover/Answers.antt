@@ -7,6 +7,7 @@ use Rattle.blif_read.specs.Views.{cover_of}
 use Rattle.blif_read.proofs.Index.{known_more, is_among_cover, few_covers}
 use Rattle.blif_read.proofs.reader.Reader.open_cover.Goals as goal
 
+-- the index has the cover's output more, and the signals stay few
 pub returns-clause-indexed : goal.returns-clause-indexed
 returns-clause-indexed c =
     let covers = map cover_of c.args.self.now.covers.items in

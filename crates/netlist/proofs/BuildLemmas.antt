@@ -1,5 +1,5 @@
 -- Names that are resolved one after another.
-use Rattle.std.proofs.Common.{◌≡◌, ℕ, ◌+◌, ◌<◌, List, [], ◌∷◌, ◌++◌, length, take, get_or, All, Option, Some, None, MatchOption, Contains, slice_get, ap, sym, subst, ◌∙◌, arith, Err, ⊎_elim, inl, inr}
+use Rattle.std.proofs.Common.{◌≡◌, ℕ, ◌+◌, ◌<◌, true, List, [], ◌∷◌, ◌++◌, length, take, get_or, All, Option, Some, None, is_some, MatchOption, refl, Contains, slice_get, ap, sym, subst, ◌∙◌, arith, Err, ⊎_elim, inl, inr}
 use Rattle.std.proofs.lemmas.List.{take_more, length-take-le}
 use Rattle.std.specs.List.{AllZip}
 use Rattle.blif_defs.specs.Values.{CoverValue, BlifValue, signals_of}
@@ -11,6 +11,7 @@ use Rattle.net_defs.specs.declared.faults.NetError.TheVariants.{UndrivenPin, NoM
 use Rattle.netlist.specs.Index.{found, IsIndexOf, PutsName}
 use Rattle.text_defs.specs.Memory.{OrMemory}
 use Rattle.netlist.specs.Resolving.{NodeOf, NodesOf}
+use Rattle.net_laws.proofs.PlaceLemmas.{Contains-standing}
 use Rattle.net_laws.proofs.NetworkLemmas.{nodes_driven}
 use Rattle.netlist.specs.declared.index.NameIndex.{NameIndex}
 use Rattle.netlist.proofs.IndexLemmas.{IsIndexOf-push, signals_of-push, length-signals_of}
@@ -20,6 +21,15 @@ pub name_found : (index : NameIndex) (names : List (List ℕ)) (q : List ℕ) (s
     → slice_get names s ≡ Some q
 name_found index names q s h e =
     let P : Option ℕ → Type 0 = λ a. MatchOption a (¬ Contains names q) (λ s. slice_get names s ≡ Some q) in subst P e (h q)
+
+-- a name that the index finds is among the names
+pub name_there : (index : NameIndex) (names : List (List ℕ)) (q : List ℕ) → IsIndexOf index names → is_some (found index q) ≡ true
+    → Contains names q
+name_there index names q h there = by (found index q) refl there
+  where
+    by : (o : Option ℕ) → found index q ≡ o → is_some o ≡ true → Contains names q
+    by None is e = absurd cc
+    by (Some s) is e = Contains-standing names s q (name_found index names q s h is)
 
 -- a name that an index doesn't find isn't there
 pub name_missing : (index : NameIndex) (names : List (List ℕ)) (q : List ℕ) → IsIndexOf index names → found index q ≡ None

@@ -8,7 +8,7 @@ use Rattle.net_defs.specs.Interfaces.{StandAt, HaveTheSameNames, InterfaceOf}
 use Rattle.net_defs.specs.declared.interface.Side.{Side}
 use Rattle.net_defs.specs.declared.interface.Side.TheVariants.{Spec, Design}
 use Rattle.net_defs.specs.declared.interface.InterfaceError.TheVariants.{Input, Output as OutputError}
-use Rattle.netlist.specs.Partners.{GivesPlaces, GivesPartners}
+use Rattle.netlist.specs.Partners.{FindsAll, GivesPartners}
 use Rattle.netlist.specs.declared.ports.Unpaired.{Unpaired}
 use Rattle.netlist.specs.declared.ports.Unpaired.TheVariants.{Missing, NoMemory}
 use Rattle.netlist.proofs.ZipLemmas.{all_zip-push}
@@ -23,7 +23,7 @@ StandAt-more names wanted places i place q at h found =
     subst P (sym last) (all_zip-push (λ p x. slice_get names p ≡ Some x) places (take i wanted) place q h found)
 
 -- the fault of the way back stands after the way there
-pub GivesPartners-back : (spec design : List (List ℕ)) (e : Unpaired) → All (Contains design) spec → GivesPlaces spec design Design (Err e)
+pub GivesPartners-back : (spec design : List (List ℕ)) (e : Unpaired) → All (Contains design) spec → FindsAll spec design Design (Err e)
     → GivesPartners spec design (Err e)
 GivesPartners-back spec design (Missing Spec place) all h = let other = h.0 in absurd cc
 GivesPartners-back spec design (Missing Design place) all h = (all, h.1)

@@ -24,6 +24,12 @@ GivesPlaces names wanted side (Ok places) = StandAt names places.items wanted
 GivesPlaces names wanted side (Err (Missing other place)) = (other ≡ side) × IsFirstMissing names wanted place
 GivesPlaces names wanted side (Err NoMemory) = Unit {0}
 
+-- all of the wanted names are among the names, or the first that isn't there
+abbrev pub FindsAll : List (List ℕ) → List (List ℕ) → Side → Result (Unit {0}) Unpaired → Type 0
+FindsAll names wanted side (Ok done) = All (Contains names) wanted
+FindsAll names wanted side (Err (Missing other place)) = (other ≡ side) × IsFirstMissing names wanted place
+FindsAll names wanted side (Err NoMemory) = Unit {0}
+
 -- the places of the partners, or the first name without one
 abbrev pub GivesPartners : List (List ℕ) → List (List ℕ) → Result (Vec ℕ Global) Unpaired → Type 0
 GivesPartners spec design (Ok places) = StandAt design places.items spec × All (Contains spec) design

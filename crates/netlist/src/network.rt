@@ -76,9 +76,9 @@ impl Model for Network {
     ghost Value = { Network };
 
     ghost view = { λ p. record {
-        inputs = p.inputs.items;
-        nodes = p.nodes.items;
-        outputs = p.outputs.items;
+      inputs = p.inputs.items;
+      nodes = p.nodes.items;
+      outputs = p.outputs.items;
     } };
 }
 

@@ -1,7 +1,7 @@
 ghost use Rattle.std.specs.Prelude.{◌≡◌, ◌≤◌, length, IfOk};
 ghost use Rattle.blif_defs.specs.declared.mark.TheConstants.{MAX_PORTS};
 ghost use Rattle.netlist.specs.Index.{IsIndexOf};
-ghost use Rattle.netlist.specs.Partners.{port_names, GivesPlaces, GivesPartners};
+ghost use Rattle.netlist.specs.Partners.{port_names, GivesPlaces, FindsAll, GivesPartners};
 ghost use Rattle.netlist.specs.declared.ports.Unpaired.TheVariants.{NoMemory};
 
 use crate::index::NameIndex;
@@ -107,6 +107,26 @@ fn places_of(
     Ok(places)
 }
 
+/// Whether all names that are wanted, which are those of a side, are among `names`.
+fn have_places(
+    alloc: Global,
+    names: &Ports<'_>,
+    wanted: &Ports<'_>,
+    side: Side,
+) -> Result<(), Unpaired>
+    requires names { length (port_names names.now) ≤ MAX_PORTS }
+    requires wanted { length (port_names wanted.now) ≤ MAX_PORTS }
+    ensures { FindsAll (port_names names.now) (port_names wanted.now) side result }
+{
+    let index = names.index(alloc)?;
+    for i in 0..wanted.count() {
+        if index.find(wanted.name(i)).is_none() {
+            return Err(Unpaired::Missing { side, place: i });
+        }
+    }
+    Ok(())
+}
+
 /// The places in the design of the partners of the specification's names, or the first name without a
 /// partner, the specification's before the design's.
 pub(crate) fn partners(
@@ -119,6 +139,6 @@ pub(crate) fn partners(
     ensures { GivesPartners (port_names spec.now) (port_names design.now) result }
 {
     let places = places_of(alloc, design, spec, Side::Spec)?;
-    let _back = places_of(alloc, spec, design, Side::Design)?;
+    have_places(alloc, spec, design, Side::Design)?;
     Ok(places)
 }

@@ -1,11 +1,11 @@
 -- How many words a form has.
 use Rattle.std.proofs.Common.{◌≡◌, ℕ, ◌<◌, ◌≤◌, List, [], ◌∷◌, length, get_or, None, String, string_bytes, refl, arith}
 use Rattle.std.specs.declared.alloc.Global.{Global}
-use Rattle.text_defs.specs.Numbers.{positive_within}
 use Rattle.fabric_defs.specs.declared.kind.CellKind.{CellKind}
-use Rattle.pch_lines.specs.Words.{words_in, verify_form, verify_with, fabric_form, fabric_in}
+use Rattle.pch_lines.specs.Words.{words_in, verify_form, verify_with, fabric_form, fabric_in, count_in}
 use Rattle.pch_lines.specs.declared.limits.TheConstants.{MAX_WORKERS}
 
+-- fewer than six words behind two files verify nothing
 pub too_few : (kind : CellKind) (spec bundle : List ℕ) (ws : List (String Global)) → length ws < 6 → verify_form kind spec bundle (words_in ws) ≡ None
 too_few kind spec bundle [] less = refl
 too_few kind spec bundle (c ∷ []) less = refl
@@ -15,6 +15,7 @@ too_few kind spec bundle (c ∷ r ∷ t ∷ i ∷ []) less = refl
 too_few kind spec bundle (c ∷ r ∷ t ∷ i ∷ o ∷ []) less = refl
 too_few kind spec bundle (c ∷ r ∷ t ∷ i ∷ o ∷ workers ∷ rest) less = absurd (omega (arith, less))
 
+-- nor do more than six
 pub too_many : (kind : CellKind) (spec bundle : List ℕ) (ws : List (String Global)) → 7 ≤ length ws → verify_form kind spec bundle (words_in ws) ≡ None
 too_many kind spec bundle [] more = absurd (omega (arith, more))
 too_many kind spec bundle (c ∷ []) more = absurd (omega (arith, more))
@@ -29,7 +30,7 @@ too_many kind spec bundle (c ∷ r ∷ t ∷ i ∷ o ∷ workers ∷ word ∷ re
 pub six_words : (kind : CellKind) (spec bundle : List ℕ) (ws : List (String Global)) (c r t i o n : String Global) → 6 ≤ length ws → length ws < 7
     → c ≡ get_or ws 0 c → r ≡ get_or ws 1 r → t ≡ get_or ws 2 t → i ≡ get_or ws 3 i → o ≡ get_or ws 4 o → n ≡ get_or ws 5 n
     → verify_with spec bundle (fabric_in kind (string_bytes c) (string_bytes r) (string_bytes t) (string_bytes i) (string_bytes o))
-    (positive_within MAX_WORKERS (string_bytes n)) ≡ verify_form kind spec bundle (words_in ws)
+    (count_in MAX_WORKERS (string_bytes n)) ≡ verify_form kind spec bundle (words_in ws)
 six_words kind spec bundle [] c r t i o n least below e0 e1 e2 e3 e4 e5 = absurd (omega (arith, least))
 six_words kind spec bundle (a ∷ []) c r t i o n least below e0 e1 e2 e3 e4 e5 = absurd (omega (arith, least))
 six_words kind spec bundle (a ∷ b ∷ []) c r t i o n least below e0 e1 e2 e3 e4 e5 = absurd (omega (arith, least))

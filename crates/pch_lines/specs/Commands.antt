@@ -7,6 +7,7 @@ use Rattle.pch_lines.specs.declared.command.NamedFile.{NamedFile}
 use Rattle.pch_lines.specs.Words.{Form, check, verify, cnf, compact}
 use Rattle.pch_lines.specs.Files.{FileValue}
 
+-- the form whose words a command has
 abbrev pub form_seen : Command → Form
 form_seen (Check formula trace) = check formula.now trace.now
 form_seen (Verify spec bundle geometry workers) = verify spec.now bundle.now geometry workers
@@ -20,5 +21,6 @@ HasWorkers (Verify spec bundle geometry workers) = (1 ≤ workers) × (workers �
 HasWorkers (Cnf spec bundle) = Unit {0}
 HasWorkers (Compact bundle out) = Unit {0}
 
+-- the name of a file, and how many bytes of it are read at most
 abbrev pub file_seen : NamedFile → FileValue
 file_seen f = record { name = f.name.now; limit = f.limit }

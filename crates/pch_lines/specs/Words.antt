@@ -1,8 +1,9 @@
 -- The forms of words that the program knows.
-use Rattle.std.specs.Prelude.{ℕ, List, [], ◌∷◌, Option, Some, None, String, string_bytes, codes, map, if◌then◌else◌}
+use Rattle.std.specs.Prelude.{ℕ, List, [], ◌∷◌, Option, Some, None, String, string_bytes, codes, map, nat_le, if◌then◌else◌}
 use Rattle.std.specs.Str.{bytes_eq}
 use Rattle.std.specs.declared.alloc.Global.{Global}
-use Rattle.text_defs.specs.Numbers.{positive_within}
+use Rattle.text_defs.specs.Numbers.{number_in}
+use Rattle.pch_base.specs.Numbers.{at_most}
 use Rattle.fabric_defs.specs.declared.kind.CellKind.{CellKind}
 use Rattle.fabric_defs.specs.declared.kind.CellKind.TheVariants.{FourInputs, SixInputs}
 use Rattle.fabric_defs.specs.Geometries.{GeometryValue}
@@ -26,6 +27,15 @@ pub data Form : Type 0 where
 
 -- ---- numbers and fabrics
 
+-- the number, where there is one and it isn't 0
+abbrev pub at_least_one : Option ℕ → Option ℕ
+at_least_one None = None
+at_least_one (Some n) = if nat_le 1 n then Some n else None
+
+-- the number from 1 to the limit that the word spells
+abbrev pub count_in : ℕ → List ℕ → Option ℕ
+count_in limit word = at_least_one (at_most limit (number_in word))
+
 -- the fabric of these numbers with cells of this kind, where all numbers are there
 abbrev pub fabric_with : CellKind → (c r t i o : Option ℕ) → Option GeometryValue
 fabric_with kind None r t i o = None
@@ -39,8 +49,7 @@ fabric_with kind (Some c) (Some r) (Some t) (Some i) (Some o) =
 -- the fabric with cells of this kind whose columns, rows, tracks, input pads and output pads the words say
 abbrev pub fabric_in : CellKind → (c r t i o : List ℕ) → Option GeometryValue
 fabric_in kind c r t i o =
-    fabric_with kind (positive_within MAX_SIDE c) (positive_within MAX_SIDE r) (positive_within MAX_TRACKS t)
-      (positive_within MAX_SIDE i) (positive_within MAX_SIDE o)
+    fabric_with kind (count_in MAX_SIDE c) (count_in MAX_SIDE r) (count_in MAX_TRACKS t) (count_in MAX_SIDE i) (count_in MAX_SIDE o)
 
 -- ---- forms
 
@@ -59,7 +68,7 @@ verify_form kind spec bundle (c ∷ r ∷ t ∷ []) = None
 verify_form kind spec bundle (c ∷ r ∷ t ∷ i ∷ []) = None
 verify_form kind spec bundle (c ∷ r ∷ t ∷ i ∷ o ∷ []) = None
 verify_form kind spec bundle (c ∷ r ∷ t ∷ i ∷ o ∷ workers ∷ []) =
-    verify_with spec bundle (fabric_in kind c r t i o) (positive_within MAX_WORKERS workers)
+    verify_with spec bundle (fabric_in kind c r t i o) (count_in MAX_WORKERS workers)
 verify_form kind spec bundle (c ∷ r ∷ t ∷ i ∷ o ∷ workers ∷ more ∷ rest) = None
 
 -- the commands that name a fabric, whose cells have this kind: a word, two words more, and the rest

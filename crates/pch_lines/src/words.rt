@@ -1,7 +1,7 @@
 //! From words to the command that they have the form of.
 
 ghost use Rattle.std.specs.Prelude.{◌≡◌, ◌≤◌, None, Some, MatchOption, IfSome};
-ghost use Rattle.pch_lines.specs.Words.{words_in, form_of, plain_form, file_form, fabric_form, form_on, verify_form, fabric_in, verify_with};
+ghost use Rattle.pch_lines.specs.Words.{words_in, form_of, plain_form, file_form, fabric_form, form_on, verify_form, count_in, fabric_in, verify_with};
 ghost use Rattle.pch_lines.specs.Commands.{form_seen, HasWorkers};
 
 use crate::command::Command;
@@ -158,7 +158,7 @@ fn fabric_of(kind: CellKind, c: &str, r: &str, t: &str, i: &str, o: &str) -> Opt
 
 /// The number from 1 to the limit that the word spells.
 fn count_of(word: &str, limit: u32) -> Option<u32>
-    ensures number { result ≡ positive_within limit word.now }
+    ensures number { result ≡ count_in limit word.now }
     ensures within { IfSome result (λ n. (1 ≤ n) × (n ≤ limit)) }
 {
     match read_number(word.as_bytes(), u64::from(limit)) {

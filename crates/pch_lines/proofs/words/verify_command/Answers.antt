@@ -6,6 +6,7 @@ use Rattle.pch_lines.proofs.WordLemmas.{too_few, too_many, six_words}
 use Rattle.pch_lines.proofs.words.verify_command.Goals.{in_default-via-then-words-lt6, in_default-via-else-words-lt6+else-words-lt7}
 use Rattle.pch_lines.proofs.words.verify_command.Goals as goal
 
+-- words that aren't six verify nothing
 pub returns-in_default-clause-command : goal.returns-in_default-clause-command
 returns-in_default-clause-command c =
     let ws = c.args.words.now in
@@ -14,6 +15,7 @@ returns-in_default-clause-command c =
       | in_default-via-else-words-lt6+else-words-lt7 w ↦ too_many c.args.kind c.args.spec.now c.args.bundle.now ws (ltb-false (length ws) 7 w.if-words-lt7-1.false)
     ]
 
+-- six words are those of a fabric and of the workers
 pub returns-clause-command : goal.returns-clause-command
 returns-clause-command c =
     let P : Option Form → Type 0 = λ f. MatchOption c.verify_of.result (f ≡ None) (λ x. f ≡ Some (form_seen x)) in

@@ -4,6 +4,7 @@ use Rattle.fabric_defs.specs.Configurations.{number_behind}
 use Rattle.fabric.proofs.TableReads.{number_behind-more, number-more, number-shifted}
 use Rattle.fabric.proofs.config.number_of.Goals as goal
 
+-- one word more is the lowest part of the number
 pub loop-word-preserved : goal.loop-word-preserved
 loop-word-preserved c =
     let words = c.args.words.now in

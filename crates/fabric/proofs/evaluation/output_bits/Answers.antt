@@ -9,22 +9,26 @@ use Rattle.fabric.proofs.PinLemmas.{listed_at}
 use Rattle.fabric.proofs.ColumnLemmas.{pads_right}
 use Rattle.fabric.proofs.evaluation.output_bits.Goals as goal
 
+-- there is a bit for each pad from the start
 pub loop-pad-init : goal.loop-pad-init
 loop-pad-init c = record {
   count = ap length c.new-bits.ensures ∙ length-bits_of c.o-count.result 0;
   done = λ j lt. absurd (omega arith);
 }
 
+-- there is a word for each pad
 pub bounds-words-pad : goal.bounds-words-pad
 bounds-words-pad c =
     let pads = c.o-count.ensures.value ∙ ap (λ (g : GeometryValue). g.output_pads) c.geometry.ensures.value in
     omega (arith, pads, c.output_pads-words.ensures.count)
 
+-- the word of a pad taps a track
 pub get-requires : goal.get-requires
 get-requires c =
     let pads = c.o-count.ensures.value ∙ ap (λ (g : GeometryValue). g.output_pads) c.geometry.ensures.value in
     omega (arith, c.output_pads-words.ensures.within c.loop-pad.pad 0 (omega (arith, pads, c.output_pads-words.ensures.count)), c.from.ensures)
 
+-- a pad takes the bit of the track that it taps
 pub loop-pad-preserved : goal.loop-pad-preserved
 loop-pad-preserved c =
     let pad : ℕ = c.loop-pad.pad in
@@ -44,6 +48,7 @@ loop-pad-preserved c =
           (cases_eq j pad);
     }
 
+-- so all pads have the bits of the wiring
 pub returns : goal.returns
 returns c = λ x w has_channel wired.
     let config = c.args.config.now in

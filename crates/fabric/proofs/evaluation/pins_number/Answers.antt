@@ -3,6 +3,7 @@ use Rattle.pch_base.specs.BitLists.{word_of}
 use Rattle.fabric.proofs.PinLemmas.{bit_of-small, bool_byte-bit_of, word_of-drop, number_more}
 use Rattle.fabric.proofs.evaluation.pins_number.Goals as goal
 
+-- one pin more is the lowest bit of the number
 pub loop-pin-preserved : goal.loop-pin-preserved
 loop-pin-preserved c =
     let pins = c.args.pins.now in

@@ -7,6 +7,7 @@ use Rattle.fabric.specs.Evaluation.{HasCells}
 use Rattle.fabric.proofs.ColumnLemmas.{HasCells-more}
 use Rattle.fabric.proofs.evaluation.put_cells_in.Goals as goal
 
+-- a cell of the column has a place
 pub set-requires : goal.set-requires
 set-requires c =
     let g = c.args.config.now.geometry in
@@ -16,6 +17,7 @@ set-requires c =
     let first : c.args.column * c.r.result ≡ c.args.column * g.rows = ap (λ n. c.args.column * n) rows in
     omega (arith, first, c.loop-row.invariant.places, c.requires.cells, cell_number-lt g c.args.column c.loop-row.row c.requires.column inside)
 
+-- one cell more has its bit
 pub loop-row-preserved : goal.loop-row-preserved
 loop-row-preserved c =
     let config = c.args.config.now in
@@ -35,6 +37,7 @@ loop-row-preserved c =
           (c.loop-row.invariant.places ∙ c.requires.cells) before (c.loop-row.invariant.done x before old) c.cell_bit.ensures);
     }
 
+-- so the cells of the column have theirs, and those before it keep theirs
 pub returns-clause-cells : goal.returns-clause-cells
 returns-clause-cells c = λ x before old w wired n lt.
     let config = c.args.config.now in

@@ -2,6 +2,7 @@ use Rattle.std.proofs.Common.{◌≡◌, ℕ, ◌+◌, ◌*◌, List, length}
 use Rattle.fabric.specs.Evaluation.{HasChannel, HasCells}
 use Rattle.fabric.proofs.evaluation.put_cells_in.Given as goal
 
+-- the cells up to this row have the bits of the wiring
 abbrev pub invariant-loop-row : goal.invariant-loop-row
 invariant-loop-row l = record {
   places : length l.cells ≡ length l.fn.cells;

@@ -5,6 +5,7 @@ use Rattle.fabric.proofs.PinLemmas.{listed_at}
 use Rattle.fabric.proofs.ColumnLemmas.{HasChannel-first}
 use Rattle.fabric.proofs.evaluation.put_first_channel.Goals as goal
 
+-- the tracks have the bits of the pads that the words take
 pub returns-clause-channel : goal.returns-clause-channel
 returns-clause-channel c =
     let config = c.args.config.now in

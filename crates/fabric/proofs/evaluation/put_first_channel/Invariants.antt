@@ -2,6 +2,7 @@ use Rattle.std.proofs.Common.{◌≡◌, ℕ, ◌+◌, ◌<◌, length, slice_in
 use Rattle.fabric_defs.specs.Wirings.{pad_bit}
 use Rattle.fabric.proofs.evaluation.put_first_channel.Given as goal
 
+-- the tracks so far have the bits of their pads, and off has 0
 abbrev pub invariant-loop-t : goal.invariant-loop-t
 invariant-loop-t l = record {
   places : length l.tracks ≡ length l.fn.tracks;

@@ -3,6 +3,7 @@ use Rattle.fabric_defs.specs.Geometries.{GeometryValue}
 use Rattle.fabric.specs.Evaluation.{HasChannel, HasCells}
 use Rattle.fabric.proofs.evaluation.sweep.Goals as goal
 
+-- the cells of a column give the next channel its bits
 pub loop-column-preserved : goal.loop-column-preserved
 loop-column-preserved c =
     let h = c.loop-column.invariant in
@@ -15,6 +16,7 @@ loop-column-preserved c =
       cells = cells;
     }
 
+-- behind the last column the tracks are those of the output pads
 pub returns-clause-outputs : goal.returns-clause-outputs
 returns-clause-outputs c = λ w wired.
     let columns = ap (λ (g : GeometryValue). g.columns) c.geometry.ensures.value in

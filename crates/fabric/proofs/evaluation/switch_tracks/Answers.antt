@@ -9,6 +9,7 @@ use Rattle.fabric.proofs.PinLemmas.{listed_at}
 use Rattle.fabric.proofs.ColumnLemmas.{channel_next, switched_right, track_written, track_left}
 use Rattle.fabric.proofs.evaluation.switch_tracks.Goals as goal
 
+-- a switch takes a cell of the column
 pub switched_bit-bit-requires : goal.switched_bit-bit-requires
 switched_bit-bit-requires c =
     let config = c.args.config.now in
@@ -19,6 +20,7 @@ switched_bit-bit-requires c =
     let inside : column * config.geometry.rows + config.geometry.rows ≤ config.geometry.columns * config.geometry.rows = grind arith in
     rw rows (omega (arith, words.within c.loop-t.t 0 (omega arith), c.requires.cells))
 
+-- one track more has its bit behind the column
 pub loop-t-preserved : goal.loop-t-preserved
 loop-t-preserved c =
     let config = c.args.config.now in
@@ -49,6 +51,7 @@ loop-t-preserved c =
           (cases_eq j t);
     }
 
+-- so the tracks have the bits of the next channel
 pub returns-clause-channel : goal.returns-clause-channel
 returns-clause-channel c = λ x has_channel has_cells w wired.
     channel_next c.args.config.now x c.args.tracks.now c.loop-t.tracks c.args.column w c.requires.column wired

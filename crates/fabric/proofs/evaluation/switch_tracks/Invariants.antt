@@ -3,6 +3,7 @@ use Rattle.fabric_defs.specs.Wirings.{Wiring, Wired, channel}
 use Rattle.fabric.specs.Evaluation.{HasChannel, HasCells}
 use Rattle.fabric.proofs.evaluation.switch_tracks.Given as goal
 
+-- the tracks so far have the bits of the next channel, and the others those of this one
 abbrev pub invariant-loop-t : goal.invariant-loop-t
 invariant-loop-t l = record {
   places : length l.tracks ≡ length l.fn.tracks;

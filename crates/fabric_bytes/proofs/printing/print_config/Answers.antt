@@ -4,6 +4,7 @@ use Rattle.fabric_defs.specs.Spelling.{bytes_of}
 use Rattle.fabric_bytes.proofs.SpellingLemmas.{pair_of, ConfigOf-printed}
 use Rattle.fabric_bytes.proofs.printing.print_config.Goals as goal
 
+-- the bytes of all words are read as the configuration
 pub returns-clause-read_again : goal.returns-clause-read_again
 returns-clause-read_again c =
     let words = c.words-words.result.now in

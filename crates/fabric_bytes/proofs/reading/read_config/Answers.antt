@@ -4,6 +4,7 @@ use Rattle.fabric_defs.specs.Spelling.{words_in, bytes_of}
 use Rattle.fabric_bytes.proofs.SpellingLemmas.{OrMemory-exact, words_of_given, bytes_of-words_in, length-words_in, ConfigOf-same}
 use Rattle.fabric_bytes.proofs.reading.read_config.Goals as goal
 
+-- the words of the bytes are the configuration, or have the fault that was judged
 pub returns-clause-exact : goal.returns-clause-exact
 returns-clause-exact c =
     let words = c.in_ok-words.words in
@@ -14,6 +15,7 @@ returns-clause-exact c =
     OrMemory-exact c.args.g (length c.args.b.now) (words_in c.args.b.now) c.new.result
     (ConfigOf-same c.args.g _ _ words.items _ c.new.result count spelled c.new.ensures)
 
+-- the configuration's words have these bytes
 pub returns-clause-printed_again : goal.returns-clause-printed_again
 returns-clause-printed_again c =
     let words = c.in_ok-words.words in

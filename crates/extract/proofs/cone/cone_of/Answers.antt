@@ -10,6 +10,7 @@ use Rattle.extract.specs.Walks.{IsMarked}
 use Rattle.extract.proofs.ConeLemmas.{IsSwept, outputs_below, pins_below, sweep_more, swept}
 use Rattle.extract.proofs.cone.cone_of.Goals as goal
 
+-- the cells of the output pads are cells of the list
 pub mark_cells-requires : goal.mark_cells-requires
 mark_cells-requires c n has =
     let l : CellsValue = cells_with c.args.g c.args.cells.now c.args.outputs.now [] in
@@ -21,9 +22,11 @@ mark_cells-requires c n has =
       c.in_ok-cone.cone.ok.0,
     )
 
+-- the cell that is looked at is one
 pub get-requires : goal.get-requires
 get-requires c = omega (arith, (c.requires []).count, c.cells-count.ensures.count)
 
+-- its pins listen to lower cells
 pub mark_cells-requires-then-index : goal.mark_cells-requires-then-index
 mark_cells-requires-then-index c n has =
     let l : CellsValue = cells_with c.args.g c.args.cells.now c.args.outputs.now [] in
@@ -35,6 +38,7 @@ mark_cells-requires-then-index c n has =
       c.loop-cell.invariant.cells,
     )
 
+-- a marked cell marks those to which it listens
 pub loop-cell-preserved-then-index : goal.loop-cell-preserved-then-index
 loop-cell-preserved-then-index c =
     let l : CellsValue = cells_with c.args.g c.args.cells.now c.args.outputs.now [] in
@@ -49,6 +53,7 @@ loop-cell-preserved-then-index c =
     sweep_more l cell flags next (c.requires []) within marked c.mark_cells-then-index.ensures.cells
     (λ n. subst (M n) c.get.ensures.pins (c.mark_cells-then-index.ensures.marks n)) (subst S after c.loop-cell.invariant)
 
+-- when all were looked at, the marks are the cone
 pub returns : goal.returns
 returns c =
     let l : CellsValue = cells_with c.args.g c.args.cells.now c.args.outputs.now [] in

@@ -7,6 +7,7 @@ use Rattle.cell_laws.proofs.CellsLemmas.{cells_of_config}
 use Rattle.extract.specs.Kept.{cells_with}
 use Rattle.extract.proofs.extraction.extract.Goals as goal
 
+-- what the configuration wires are cells of its fabric
 pub cone_of-requires : goal.cone_of-requires
 cone_of-requires c = λ cone.
     let G : GeometryValue → Type 0 =
@@ -16,6 +17,7 @@ cone_of-requires c = λ cone.
     cells_of_config c.args.config.now _ c.geometry-geometry.ensures.known
     (subst G (sym c.geometry-geometry.ensures.value) (subst S (sym c.deref.ensures.value) (c.in_ok-cells.ensures cone)))
 
+-- so they are with the cone that was found
 pub invariant_of-result : goal.invariant_of-result
 invariant_of-result c =
     let G : GeometryValue → Type 0 =
@@ -28,6 +30,7 @@ invariant_of-result c =
       cone = subst C c.deref.ensures.value c.in_ok-cone.ensures;
     }
 
+-- and they are the cells of the configuration
 pub returns : goal.returns
 returns c =
     let G : GeometryValue → Type 0 =

@@ -4,6 +4,7 @@ use Rattle.fabric.proofs.PinLemmas.{listed_at}
 use Rattle.extract.proofs.WalkLemmas.{switched_more}
 use Rattle.extract.proofs.sources.pass_switches.Goals as goal
 
+-- a switch gives its track a cell of the column, or leaves its source
 pub loop-t-preserved : goal.loop-t-preserved
 loop-t-preserved c =
     let config = c.args.config.now in

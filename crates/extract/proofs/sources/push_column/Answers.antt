@@ -4,6 +4,7 @@ use Rattle.fabric_defs.specs.Geometries.{GeometryValue, pin_count}
 use Rattle.extract.proofs.WalkLemmas.{room_for, pins_tapped, cell_passed, column_passed}
 use Rattle.extract.proofs.sources.push_column.Goals as goal
 
+-- all pins of the fabric are few enough for the list
 pub push-requires-clause-few_pins : goal.push-requires-clause-few_pins
 push-requires-clause-few_pins c =
     let config = c.args.config.now in
@@ -14,6 +15,7 @@ push-requires-clause-few_pins c =
     (room_for config c.args.column c.loop-row.row c.loop-row.cells (length c.deref.result.now) c.geometry.ensures.known.geometry
     c.requires.column inside c.loop-row.invariant few).0
 
+-- and so are its cells
 pub push-requires-clause-few_cells : goal.push-requires-clause-few_cells
 push-requires-clause-few_cells c =
     let config = c.args.config.now in
@@ -24,6 +26,7 @@ push-requires-clause-few_cells c =
     (room_for config c.args.column c.loop-row.row c.loop-row.cells (length c.deref.result.now) c.geometry.ensures.known.geometry
     c.requires.column inside c.loop-row.invariant few).1
 
+-- a cell's pins have the sources of the tracks that they tap
 pub loop-row-preserved : goal.loop-row-preserved
 loop-row-preserved c =
     let config = c.args.config.now in
@@ -35,6 +38,7 @@ loop-row-preserved c =
     c.in_ok-push.ensures.ok
     ∙ cell_passed config c.args.column c.loop-row.row c.loop-row.cells c.deref.result.now c.table.result c.loop-row.invariant pins c.table.ensures
 
+-- so the cells up to the end of the column are listed
 pub returns : goal.returns
 returns c =
     let rows = c.r-row-end.ensures.value ∙ ap (λ (g : GeometryValue). g.rows) c.geometry.ensures.value in

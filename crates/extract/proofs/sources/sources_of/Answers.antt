@@ -4,6 +4,7 @@ use Rattle.extract.specs.Walks.{tapped_sources}
 use Rattle.extract.proofs.WalkLemmas.{pads_tapped, all_passed}
 use Rattle.extract.proofs.sources.sources_of.Goals as goal
 
+-- behind the last column all cells and output pads have their sources
 pub returns : goal.returns
 returns c = λ cone.
     let config = c.args.config.now in

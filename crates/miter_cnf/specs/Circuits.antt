@@ -7,6 +7,7 @@ use Rattle.extract.specs.Kept.{AreCellsWithCone}
 use Rattle.miter_defs.specs.Equality.{FitsPads}
 use Rattle.miter_cnf.specs.Numbered.{NumberingValue, numbering_of}
 
+-- a network and the cells of a configuration, of which the miter is made
 pub record Circuits : Type 0 where
   pub net : Network
   pub cells : CellsValue

@@ -91,7 +91,7 @@ impl<'a> Circuits<'a> {
         requires row { r < length (node_at self.now.net v).rows }
         ensures { OnOk result (Adds w.old.clauses
             (hit_clauses (row_variable self.now.net v r)
-                (row_literals (row_at self.now.net v r) (node_at self.now.net v).fan_ins))
+            (row_literals (row_at self.now.net v r) (node_at self.now.net v).fan_ins))
             w.new.clauses) }
     {
         let net = self.net;
@@ -112,8 +112,8 @@ impl<'a> Circuits<'a> {
         requires { v < length self.now.net.nodes }
         ensures { OnOk result (Adds w.old.clauses
             (joined (length (node_at self.now.net v).rows)
-                (λ r. hit_clauses (row_variable self.now.net v r)
-                    (row_literals (row_at self.now.net v r) (node_at self.now.net v).fan_ins)))
+            (λ r. hit_clauses (row_variable self.now.net v r)
+            (row_literals (row_at self.now.net v r) (node_at self.now.net v).fan_ins)))
             w.new.clauses) }
     {
         for r in 0..self.rows(v) {
@@ -127,9 +127,9 @@ impl<'a> Circuits<'a> {
         requires { v < length self.now.net.nodes }
         ensures { OnOk result (Adds w.old.clauses
             ((literal (node_variable self.now.net v) (not (node_at self.now.net v).on)
-                ∷ map positive (list_of
-                    (length (node_at self.now.net v).rows)
-                    (row_variable self.now.net v))) ∷ [])
+            ∷ map positive (list_of
+            (length (node_at self.now.net v).rows)
+            (row_variable self.now.net v))) ∷ [])
             w.new.clauses) }
     {
         let net = self.net;
@@ -146,9 +146,9 @@ impl<'a> Circuits<'a> {
         requires { v < length self.now.net.nodes }
         ensures { OnOk result (Adds w.old.clauses
             (map
-                (λ hit. literal (node_variable self.now.net v) (node_at self.now.net v).on
-                    ∷ negative hit ∷ [])
-                (list_of (length (node_at self.now.net v).rows) (row_variable self.now.net v)))
+            (λ hit. literal (node_variable self.now.net v) (node_at self.now.net v).on
+            ∷ negative hit ∷ [])
+            (list_of (length (node_at self.now.net v).rows) (row_variable self.now.net v)))
             w.new.clauses) }
     {
         let net = self.net;

@@ -61,7 +61,7 @@ impl<'a> Circuits<'a> {
         requires { k < cell_count self.now.cells.geometry }
         ensures { OnOk result (Adds w.old.clauses
             (list_of (table_bits self.now.cells.geometry)
-                (table_clause self.now.net self.now.cells k))
+            (table_clause self.now.net self.now.cells k))
             w.new.clauses) }
     {
         let cells = self.cells;

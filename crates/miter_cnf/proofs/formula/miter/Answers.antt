@@ -7,5 +7,6 @@ of_formula : {E : Type 0} (P : Formula → Type 0) (f : Formula) (r : Result For
 of_formula P f (Ok s) p e = subst P (sym e) p
 of_formula P f (Err e) p h = h
 
+-- the set is the formula, so what holds where that has no assignment holds here
 pub returns-clause-sound : goal.returns-clause-sound
 returns-clause-sound c = of_formula _ _ c.from_clauses.result (c.in_ok-variables.ensures {u = tt}).sound c.from_clauses.ensures

@@ -2,6 +2,7 @@ use Rattle.std.proofs.Common.{ap, length, arith}
 use Rattle.miter_cnf.proofs.NumberLemmas.{rows-few}
 use Rattle.miter_cnf.proofs.sums.row_counts.Goals as goal
 
+-- a node has few rows
 pub overflow_cast-node_rows : goal.overflow_cast-node_rows
 overflow_cast-node_rows c =
     omega (

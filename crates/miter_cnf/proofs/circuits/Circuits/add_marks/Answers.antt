@@ -2,6 +2,7 @@ use Rattle.std.proofs.Common.{◌∙◌, arith}
 use Rattle.miter_cnf.proofs.RowLemmas.{added-row_literals}
 use Rattle.miter_cnf.proofs.circuits.Circuits.add_marks.Goals as goal
 
+-- one mark more adds the negation of what it asks
 pub loop-i-preserved : goal.loop-i-preserved
 loop-i-preserved c = record {
   clauses = (c.in_ok-add_mark.ensures.clauses) ∙ c.loop-i.invariant.clauses;

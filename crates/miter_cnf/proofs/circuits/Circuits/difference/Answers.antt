@@ -4,6 +4,7 @@ use Rattle.miter_defs.specs.Miters.{positive}
 use Rattle.miter_cnf.specs.Circuits.{Circuits}
 use Rattle.miter_cnf.proofs.circuits.Circuits.difference.Goals as goal
 
+-- the number of a difference is that of the miter
 pub returns : goal.returns
 returns c =
     let a = c.self.inside in

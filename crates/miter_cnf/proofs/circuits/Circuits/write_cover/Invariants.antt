@@ -5,6 +5,7 @@ use Rattle.miter_defs.specs.Numberings.{node_variable, row_variable}
 use Rattle.miter_defs.specs.Miters.{literal, positive}
 use Rattle.miter_cnf.proofs.circuits.Circuits.write_cover.Given as goal
 
+-- the clause has the node's sign and the rows so far
 abbrev pub invariant-loop-r : goal.invariant-loop-r
 invariant-loop-r l = record {
   clauses : l.w.clauses ≡ l.initial.w.clauses;

@@ -6,6 +6,7 @@ use Rattle.miter_defs.specs.Miters.{literal, negative}
 use Rattle.miter_cnf.specs.Writing.{Adds}
 use Rattle.miter_cnf.proofs.circuits.Circuits.write_hits.Given as goal
 
+-- there is a clause for each row so far
 abbrev pub invariant-loop-r : goal.invariant-loop-r
 invariant-loop-r l =
     Adds l.initial.w.clauses

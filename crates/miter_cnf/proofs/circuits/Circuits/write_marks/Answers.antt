@@ -3,6 +3,7 @@ use Rattle.clause_defs.specs.Literals.{negation}
 use Rattle.miter_cnf.proofs.RowLemmas.{Adds-row_literals}
 use Rattle.miter_cnf.proofs.circuits.Circuits.write_marks.Goals as goal
 
+-- one mark more adds the clause of what it asks
 pub loop-i-preserved : goal.loop-i-preserved
 loop-i-preserved c =
     Adds-row_literals c.args.w.now.clauses c.loop-i.w.clauses c.write_mark.new.w.clauses (λ m. negation c.args.hit ∷ m ∷ [])

@@ -14,6 +14,7 @@ use Rattle.miter_cnf.specs.Writing.{Adds}
 use Rattle.miter_cnf.proofs.OutputLemmas.{output_signal-is, output_signal-below, source-holds, difference_clauses-same}
 use Rattle.miter_cnf.proofs.circuits.Circuits.write_output.Goals as goal
 
+-- an output shows a signal of the net
 pub signal-signal-requires : goal.signal-signal-requires
 signal-signal-requires c =
     let P : Circuits → Type 0 = λ s. c.output_signal.result < signals s.net in
@@ -21,6 +22,7 @@ signal-signal-requires c =
     (output_signal-below c.self.inside.net.now c.args.o c.output_signal.result
     c.self.invariant.circuits.is_net.output_signals c.output_signal.ensures)
 
+-- an output pad listens to a cell of the fabric or a pad of it
 pub source-source-requires : goal.source-source-requires
 source-source-requires c =
     let P : Circuits → Type 0 = λ s. IsSourceBelow s.cells.geometry.input_pads (cell_count s.cells.geometry) c.output.result in
@@ -29,6 +31,7 @@ source-source-requires c =
     (source-holds (IsSourceBelow g.input_pads (cell_count g)) c.self.inside.cells.now.outputs c.args.o c.output.result
     c.output.ensures.known.cells.outputs c.output.ensures.value)
 
+-- the difference is that of the output and its pad
 pub returns : goal.returns
 returns c =
     let net = c.args.self.now.net in

@@ -2,6 +2,7 @@ use Rattle.miter_defs.specs.Miters.{output_clauses}
 use Rattle.miter_cnf.proofs.WritingLemmas.{Adds-joined}
 use Rattle.miter_cnf.proofs.circuits.Circuits.write_outputs.Goals as goal
 
+-- one output more adds its clauses
 pub loop-o-preserved : goal.loop-o-preserved
 loop-o-preserved c =
     let s = c.args.self.now in

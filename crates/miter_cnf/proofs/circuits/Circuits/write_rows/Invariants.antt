@@ -5,6 +5,7 @@ use Rattle.miter_defs.specs.Miters.{row_literals, hit_clauses, row_at}
 use Rattle.miter_cnf.specs.Writing.{Adds}
 use Rattle.miter_cnf.proofs.circuits.Circuits.write_rows.Given as goal
 
+-- the clauses of the rows so far are written
 abbrev pub invariant-loop-r : goal.invariant-loop-r
 invariant-loop-r l =
     Adds l.initial.w.clauses

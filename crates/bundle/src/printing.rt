@@ -25,10 +25,10 @@ pub fn print_bundle(
     requires trace { length trace.now < 2 ^ 32 }
     ensures { IfOk result (λ v. v.items
         ≡ bundle_bytes (record {
-            version = version;
-            geometry = g;
-            config = config.now;
-            trace = trace.now;
+          version = version;
+          geometry = g;
+          config = config.now;
+          trace = trace.now;
         })) }
 {
     let length = HEAD_BYTES + config.len() + LENGTH_BYTES + trace.len() + DIGEST_BYTES;

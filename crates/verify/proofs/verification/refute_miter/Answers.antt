@@ -4,11 +4,13 @@ use Rattle.clause_defs.specs.Verdicts.{VerdictOf}
 use Rattle.clause_defs.specs.declared.verdict.TheConstants.{MAX_COMPUTED}
 use Rattle.verify.proofs.verification.refute_miter.Goals as goal
 
+-- a refuted miter shows that net and configuration are equal
 pub returns-in-Refutes-clause-equal : goal.returns-in-Refutes-clause-equal
 returns-in-Refutes-clause-equal g c =
     c.in_ok-miter.ensures.sound c.args.config.now c.requires.config c.in_ok-cells.ensures.sources
     (c.in_ok-verdict.ensures.sound c.in-Refutes.is)
 
+-- any other verdict is that of the miter
 pub returns : goal.returns
 returns g c = record {
   refutes = tt;

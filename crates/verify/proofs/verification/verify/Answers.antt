@@ -13,5 +13,6 @@ invariant_of-result g c =
     let equal : N (arc_value c.args.net.now) = subst N c.deref.ensures c.in_ok-config.ensures.equal in
     subst K (sym c.in_ok-new.ensures.ok) (subst N (sym c.in_ok-clone.ensures.cases) equal)
 
+-- so they are equal
 pub returns-clause-equal : goal.returns-clause-equal
 returns-clause-equal g c = invariant_of-result g c

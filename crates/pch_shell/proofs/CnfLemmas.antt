@@ -10,6 +10,7 @@ use Rattle.pch_lines.specs.FaultLines.{miter_error_line}
 use Rattle.pch_shell.specs.Outcomes.{Outcome, bad_input}
 use Rattle.pch_shell.specs.Cnf.{CnfDue}
 
+-- a bundle that gives no miter with the specification ends as bad input
 pub bad_bundle_due : {N : Type 0} (r : Result Outcome N) (sn bn spec bundle : List ℕ) (net : Network) (error : MiterError)
     → HasNetwork spec net → (error ≡ NoMemory) ⊎ MiterFault net bundle error
     → IfOk r (λ o. o ≡ bad_input (miter_error_line (and_word (codes "bundle") bn) error))

@@ -23,36 +23,43 @@ use Rattle.pch_shell.specs.declared.status.Status.TheVariants.{Done, NotAccepted
 abbrev IsOfWork : Outcome → Type 0
 IsOfWork o = (o.status ≡ Done) ⊎ ((o.status ≡ NotAccepted) ⊎ (o.status ≡ BadInput))
 
+-- equal outcomes have one status
 status_of : (o p : Outcome) → o ≡ p → o.status ≡ p.status
 status_of o p e = ap (λ (x : Outcome). x.status) e
 
+-- what `check` comes to is of its work
 check_work : (cn tn formula trace : List ℕ) (o : Outcome) → CheckDue cn tn formula trace o → IsOfWork o
 check_work cn tn formula trace o (inl h) = inl (status_of o _ h.1)
 check_work cn tn formula trace o (inr (inl h)) = inr (inl (status_of o _ h.2))
 check_work cn tn formula trace o (inr (inr (inl h))) = inr (inr (status_of o _ h.2))
 check_work cn tn formula trace o (inr (inr (inr h))) = inr (inr (status_of o _ h.2))
 
+-- what `verify` comes to is of its work
 verify_work : (sn : List ℕ) (g : GeometryValue) (spec bundle : List ℕ) (o : Outcome) → VerifyDue sn g spec bundle o → IsOfWork o
 verify_work sn g spec bundle o (inl h) = inl (status_of o _ h.1)
 verify_work sn g spec bundle o (inr (inl h)) = inr (inl (status_of o _ h.2))
 verify_work sn g spec bundle o (inr (inr h)) = inr (inr (status_of o _ h.2))
 
+-- what `cnf` comes to is of its work
 cnf_work : (sn bn spec bundle : List ℕ) (o : Outcome) → CnfDue sn bn spec bundle o → IsOfWork o
 cnf_work sn bn spec bundle o (inl h) = inl (status_of o _ h.2)
 cnf_work sn bn spec bundle o (inr (inl h)) = inr (inr (status_of o _ h.2))
 cnf_work sn bn spec bundle o (inr (inr h)) = inr (inr (status_of o _ h.2))
 
+-- what `compact` comes to is of its work
 compact_work : (name bytes : List ℕ) (o : Outcome) → CompactDue name bytes o → IsOfWork o
 compact_work name bytes o (inl h) = inl (status_of o _ h.2)
 compact_work name bytes o (inr (inl h)) = inr (inr (status_of o _ h.2))
 compact_work name bytes o (inr (inr (inl h))) = inr (inr (status_of o _ h.2))
 compact_work name bytes o (inr (inr (inr h))) = inr (inr (status_of o _ h.2))
 
+-- what is due for one file is due for that file
 of_one : (files : List (List ℕ)) (P : List ℕ → Type 0) (Q : Type 0) → OfOne files P → ((a : List ℕ) → P a → Q) → Q
 of_one [] P Q h k = absurd h
 of_one (a ∷ []) P Q h k = k a h
 of_one (a ∷ b ∷ rest) P Q h k = absurd h
 
+-- what is due for two files is due for those two
 of_two : (files : List (List ℕ)) (P : List ℕ → List ℕ → Type 0) (Q : Type 0) → OfTwo files P
     → ((a b : List ℕ) → P a b → Q) → Q
 of_two [] P Q h k = absurd h
@@ -75,6 +82,7 @@ work_not o s (inr (inr e)) a b c is = c (sym is ∙ e)
 
 -- ---- what status 0 shows
 
+-- what is due for two files may be replaced by what follows from it
 map_two : (files : List (List ℕ)) (P Q : List ℕ → List ℕ → Type 0) → OfTwo files P
     → ((a b : List ℕ) → P a b → Q a b) → OfTwo files Q
 map_two [] P Q h k = absurd h
@@ -82,9 +90,11 @@ map_two (a ∷ []) P Q h k = absurd h
 map_two (a ∷ b ∷ []) P Q h k = k a b h
 map_two (a ∷ b ∷ c ∷ rest) P Q h k = absurd h
 
+-- an outcome with another status isn't done
 not_done : (o : Outcome) (s : Status) → o.status ≡ s → s ≢ Done → o.status ≡ Done → ⊥
 not_done o s is other done = other (sym is ∙ done)
 
+-- where `check` is done, the trace refutes the formula
 check_shows : (cn tn formula trace : List ℕ) (o : Outcome) → o.status ≡ Done → CheckDue cn tn formula trace o
     → Refuted formula trace
 check_shows cn tn formula trace o done (inl h) = h.0
@@ -92,6 +102,7 @@ check_shows cn tn formula trace o done (inr (inl h)) = absurd (not_done o NotAcc
 check_shows cn tn formula trace o done (inr (inr (inl h))) = absurd (not_done o BadInput (status_of o _ h.2) (λ e. cc) done)
 check_shows cn tn formula trace o done (inr (inr (inr h))) = absurd (not_done o BadInput (status_of o _ h.2) (λ e. cc) done)
 
+-- where `verify` is done, the bundle is accepted
 verify_shows : (sn : List ℕ) (g : GeometryValue) (spec bundle : List ℕ) (o : Outcome) → o.status ≡ Done → VerifyDue sn g spec bundle o
     → IsAccepted g spec bundle
 verify_shows sn g spec bundle o done (inl h) = h.0
@@ -109,6 +120,7 @@ holds_saved (Some f) (Some k) name bytes h = h.0
 abbrev ShowsSaved : Form → List (List ℕ) → Option Files → Type 0
 ShowsSaved form files new = (saved : List ℕ) × HoldsOut (out_of form) new saved × Holds form files saved
 
+-- where the bytes of an outcome are saved, the file has them
 saved_by : (o : Outcome) (short text : List ℕ) (out : List ℕ) (old new : StoreState)
     → o ≡ record { status = Done; text = text; saved = Some short } → AreSaved (Some out) o.saved old new
     → HoldsOut (Some out) new.files short
@@ -117,6 +129,7 @@ saved_by o short text out old new is saved =
     subst (λ (x : Option (List ℕ)). AreSaved (Some out) x old new) (ap (λ (x : Outcome). x.saved) is) saved in
     holds_saved old.files new.files out short named.0
 
+-- where `compact` is done, the file has the compacted bundle
 compact_shows : (name bytes out : List ℕ) (o : Outcome) (old new : StoreState) → o.status ≡ Done → CompactDue name bytes o
     → AreSaved (Some out) o.saved old new → ShowsSaved (compact name out) (bytes ∷ []) new.files
 compact_shows name bytes out o old new done (inl (short, is, due)) saved =
@@ -125,6 +138,7 @@ compact_shows name bytes out o old new done (inr (inl h)) saved = absurd (not_do
 compact_shows name bytes out o old new done (inr (inr (inl h))) saved = absurd (not_done o BadInput (status_of o _ h.2) (λ e. cc) done)
 compact_shows name bytes out o old new done (inr (inr (inr h))) saved = absurd (not_done o BadInput (status_of o _ h.2) (λ e. cc) done)
 
+-- where a command is done, what status 0 shows holds of what is saved
 done_shows : (form : Form) (files : List (List ℕ)) (o : Outcome) (old new : StoreState) → o.status ≡ Done → FilesDue form files o
     → AreSaved (out_of form) o.saved old new → ShowsSaved form files new.files
 done_shows (check cn tn) files o old new done h saved =
@@ -146,31 +160,38 @@ done_shows (compact bn out) (bytes ∷ b ∷ rest) o old new done h saved = absu
 
 -- ---- files
 
+-- a file that stays as it is may count as spoiled
 spoils_same : (f : Option Files) (name : List ℕ) → Spoils f f name
 spoils_same None name = tt
 spoils_same (Some f) name = λ other ne. refl
 
+-- files that stay as they are change in the saved one alone
 pub only_same : (out : Option (List ℕ)) (old new : Option Files) → new ≡ old → OnlyOut out old new
 only_same None old new e = e
 only_same (Some name) old new e = rw e (spoils_same old name)
 
+-- saving a file spoils no other
 saves_spoils : (old new : Option Files) (name bytes : List ℕ) → Saves old new name bytes → Spoils old new name
 saves_spoils None None name bytes h = tt
 saves_spoils None (Some f) name bytes h = absurd h
 saves_spoils (Some f) None name bytes h = absurd h
 saves_spoils (Some f) (Some k) name bytes h = h.1
 
+-- equal states have the same files
 files_of_state : (old new : StoreState) → new ≡ old → new.files ≡ old.files
 files_of_state old new e = ap (λ (s : StoreState). s.files) e
 
+-- what is saved changes the saved file alone
 saved_only : (out saved : Option (List ℕ)) (old new : StoreState) → AreSaved out saved old new → OnlyOut out old.files new.files
 saved_only None saved old new h = files_of_state old new h
 saved_only (Some name) None old new h = only_same (Some name) old.files new.files (files_of_state old new h)
 saved_only (Some name) (Some bytes) old new h = saves_spoils old.files new.files name bytes h.0
 
+-- so does what couldn't be saved
 not_saved_only : (out : Option (List ℕ)) (old new : StoreState) (name : List ℕ) → NotSaved out old new name → OnlyOut out old.files new.files
 not_saved_only out old new name h = subst (λ (x : Option (List ℕ)). OnlyOut x old.files new.files) (sym h.named) h.others
 
+-- so does all that a command does before it writes
 tells_only : (form : Option Form) (old new : StoreState) (told : Outcome) → WordsTell form old new told
     → OnlyOut (out_named form) old.files new.files
 tells_only None old new told h = files_of_state old new h.1
@@ -207,6 +228,7 @@ loaded_one t (f ∷ fs) (b ∷ bs) (c ∷ cs) h k =
     let rest = loaded_one t fs bs cs h.1 k.1 in
     cc
 
+-- a file within the limit isn't too long
 too_long : (o : Option (List ℕ)) (limit : ℕ) (b : List ℕ) → o ≡ Some b → length b ≤ limit → IsSomeAnd o (λ c. limit < length c) → ⊥
 too_long None limit b e le h = absurd (cc)
 too_long (Some c) limit b e le h = let same : c ≡ b = cc in let k : limit < length b = rw same at h in omega arith
@@ -219,6 +241,7 @@ cause_rose t name limit before now fails.Absent b there cause real = absurd (let
 cause_rose t name limit before now fails.TooLong b there cause real = absurd (too_long (t name) limit b there.0 there.1 cause)
 cause_rose t name limit before now fails.NoMemory b there cause real = absurd (real refl)
 
+-- where files are told as they may be loaded, another cause counts as a fault
 fails_by_count : (t : Files) (before now : ℕ) (fs : List FileValue) (bs : List (List ℕ)) (name : List ℕ) (fail : LoadFail)
     → AreLoaded (Some t) fs bs → IsNotLoaded (Some t) before now fs name fail → fail ≢ fails.NoMemory → Rose before now
 fails_by_count t before now [] bs name fail h not real = absurd not
@@ -252,6 +275,7 @@ told_of form old new before after status not_sink not_memory (inr (told, tells, 
 told_of form old new before after status not_sink not_memory (inr (told, tells, inr (inl put))) = absurd (not_sink put.0)
 told_of form old new before after status not_sink not_memory (inr (told, tells, inr (inr put))) = absurd (not_memory put.0)
 
+-- status 0 is told where it shows what it promises
 told_shows : (form : Option Form) (old new : StoreState) (told : Outcome) → WordsTell form old new told → told.status ≡ Done
     → Shows form old.files new.files
 told_shows None old new told h done = absurd (let e : Words ≡ Done = sym (status_of told _ h.0) ∙ done in cc)
@@ -264,6 +288,7 @@ told_shows (Some form) old new told (inl w) done =
     ]
 told_shows (Some form) old new told (inr s) done = absurd (let e : Store ≡ Done = sym (status_of told _ s.is_told) ∙ done in cc)
 
+-- the status of words comes with no form alone
 told_words : (form : Option Form) (old new : StoreState) (told : Outcome) → WordsTell form old new told → told.status ≡ Words
     → form ≡ None
 told_words None old new told h is = refl
@@ -275,6 +300,7 @@ told_words (Some form) old new told (inl w) is =
     ]
 told_words (Some form) old new told (inr s) is = absurd (let e : Store ≡ Words = sym (status_of told _ s.is_told) ∙ is in cc)
 
+-- the status of the store comes with its cause
 told_store : (form : Option Form) (old new : StoreState) (told : Outcome) → WordsTell form old new told → told.status ≡ Store
     → StoreCause form old new
 told_store None old new told h is = let e : Words ≡ Store = sym (status_of told _ h.0) ∙ is in cc
@@ -286,6 +312,7 @@ told_store (Some form) old new told (inl w) is =
     ]
 told_store (Some form) old new told (inr s) is = inl (s.name, s.fail, s.real, s.not_loaded)
 
+-- where the status is that of the sink, its faults rose
 sink_rose : (form : Option Form) (old new : StoreState) (before after : SinkState) (status : Status) → status ≡ Sink
     → Ends form old new before after status → Rose before.faults after.faults
 sink_rose form old new before after status is (inl w) = absurd (let e : Memory ≡ Sink = sym w.memory ∙ is in cc)
@@ -295,6 +322,7 @@ sink_rose form old new before after status is (inr (told, tells, inr (inl put)))
 sink_rose form old new before after status is (inr (told, tells, inr (inr put))) =
     absurd (let e : Memory ≡ Sink = sym put.0 ∙ is in cc)
 
+-- where the files are loaded, their bytes decide how a run ends
 decided : (form : Form) (old new : StoreState) (before after : SinkState) (status : Status) (told : Outcome) (t : Files) (files : List (List ℕ))
     → old.files ≡ Some t → AreLoaded old.files (files_of form) files → Tells form old new told → status ≡ told.status
     → IsDecided form files old new before after status
@@ -315,6 +343,7 @@ decided form old new before after status told t files is_told loaded (inr s) is 
           (subst (λ f. AreLoaded f (files_of form) files) is_told loaded) not s.real,
     ))
 
+-- the bytes of files decide how a run ends, or else a fault of the outside or want of memory does
 completes : (form : Option Form) (old new : StoreState) (before after : SinkState) (status : Status)
     → Ends form old new before after status → Completes form old new before after status
 completes None old new before after status ends = tt
@@ -326,11 +355,13 @@ completes (Some form) old new before after status (inr (told, tells, inr (inl pu
 completes (Some form) old new before after status (inr (told, tells, inr (inr put))) =
     λ t files is loaded. inr (inr (inr put.0))
 
+-- a run that wants memory changes the saved file alone
 leaves_only : (form : Option Form) (old new : Option Files) → Leaves form old new → OnlyOut (out_named form) old new
 leaves_only None old new e = e
 leaves_only (Some form) old new (inl e) = only_same (out_of form) old new e
 leaves_only (Some form) old new (inr w) = w.only
 
+-- so does every run
 ends_only : (form : Option Form) (old new : StoreState) (before after : SinkState) (status : Status)
     → Ends form old new before after status → OnlyOut (out_named form) old.files new.files
 ends_only form old new before after status (inl w) = leaves_only form old.files new.files w.files

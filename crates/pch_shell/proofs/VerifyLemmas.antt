@@ -10,6 +10,7 @@ use Rattle.pch_lines.specs.RefusalLines.{refusal_line}
 use Rattle.pch_shell.specs.Outcomes.{Outcome, refused}
 use Rattle.pch_shell.specs.Verify.{VerifyDue}
 
+-- a bundle with a first refusal ends as not accepted
 pub refused_due : (sn : List ℕ) (g : GeometryValue) (spec bundle : List ℕ) (net : Network) (reason : Refusal) (o : Outcome)
     → HasNetwork spec net → (reason ≡ NoMemory) ⊎ FirstRefusal g net bundle reason → reason ≢ NoMemory
     → o ≡ refused (refusal_line reason) → VerifyDue sn g spec bundle o

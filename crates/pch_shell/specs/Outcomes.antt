@@ -6,6 +6,7 @@ use Rattle.pch_lines.specs.Lines.{and_word, ended}
 use Rattle.pch_shell.specs.declared.status.Status.{Status}
 use Rattle.pch_shell.specs.declared.status.Status.TheVariants.{Done, NotAccepted, Words, Store, BadInput}
 
+-- the status of a command, the text that is written, and the bytes that are saved before, if any
 pub record Outcome : Type 0 where
   pub status : Status
   pub text : List ℕ

@@ -3,6 +3,7 @@ use Rattle.std.specs.Prelude.{ℕ}
 use Rattle.pch_shell.specs.declared.status.Status.{Status}
 use Rattle.pch_shell.specs.declared.status.Status.TheVariants.{Done, NotAccepted, Words, Store, Sink, Memory, Differs, Unroutable, Spent, BadInput}
 
+-- the number of each exit status
 abbrev pub code_of : Status → ℕ
 code_of Done = 0
 code_of NotAccepted = 1

@@ -67,7 +67,7 @@ fn bad_bundle(alloc: Global, name: &str, error: BundleError) -> Result<Ending, N
 fn bad_trace(alloc: Global, name: &str, error: TraceError) -> Result<Ending, NoMemory>
     ensures ending { IfOk result (λ e.
         e ≡ bad_input
-            (trace_line (and_word (and_word (codes "bundle") name.now) (codes "trace")) error)) }
+        (trace_line (and_word (and_word (codes "bundle") name.now) (codes "trace")) error)) }
     ensures fault { IfOk result (λ _. error ≢ TraceError.NoMemory) }
 {
     let front = Line::new(alloc, "bundle")?.word(name)?.word("trace")?;

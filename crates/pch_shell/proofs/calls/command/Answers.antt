@@ -1,6 +1,7 @@
 use Rattle.pch_shell.proofs.RunLemmas.{ends_of, runs_of}
 use Rattle.pch_shell.proofs.calls.command.Goals as goal
 
+-- what was told is what is finished
 pub returns-clause-runs : goal.returns-clause-runs
 returns-clause-runs g c =
     runs_of _ _ _ _ _ _

@@ -1,7 +1,9 @@
 use Rattle.pch_shell.proofs.calls.work.Goals as goal
 
+-- the two files are those of the words
 pub returns-in-Cnf : goal.returns-in-Cnf
 returns-in-Cnf g c = rw (c.in-Cnf.is, c.two-spec_bytes-in-Cnf.ensures) c.run-in-Cnf.ensures
 
+-- so is the one file
 pub returns-in-Compact : goal.returns-in-Compact
 returns-in-Compact g c = rw (c.in-Compact.is, c.one.ensures) c.run-in-Compact.ensures

@@ -4,6 +4,7 @@ use Rattle.pch_lines.specs.Commands.{file_seen}
 use Rattle.pch_shell.specs.Loading.{AreLoaded, IsNotLoaded}
 use Rattle.pch_shell.proofs.loading.load_all.Given as goal
 
+-- the files that are left decide what is loaded and what fails
 abbrev pub invariant-loop-file : goal.invariant-loop-file
 invariant-loop-file g l = record {
   files : g.S.Store.files l.store ≡ g.S.Store.files l.fn.store;

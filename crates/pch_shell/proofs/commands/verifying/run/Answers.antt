@@ -2,6 +2,7 @@ use Rattle.std.proofs.Common.{rules}
 use Rattle.pch_shell.proofs.VerifyLemmas.{refused_due}
 use Rattle.pch_shell.proofs.commands.verifying.run.Goals as goal
 
+-- the first refusal ends as not accepted
 pub returns : goal.returns
 returns g c =
     refused_due _ _ _ _ c.in-Ok.net c.in-Err-verify.refusal c.refused.result

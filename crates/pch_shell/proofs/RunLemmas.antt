@@ -191,7 +191,7 @@ saved_only (Some name) (Some bytes) old new h = saves_spoils old.files new.files
 not_saved_only : (out : Option (List ℕ)) (old new : StoreState) (name : List ℕ) → NotSaved out old new name → OnlyOut out old.files new.files
 not_saved_only out old new name h = subst (λ (x : Option (List ℕ)). OnlyOut x old.files new.files) (sym h.named) h.others
 
--- so does all that a command does before it writes
+-- and so does all that a command does before it writes
 tells_only : (form : Option Form) (old new : StoreState) (told : Outcome) → WordsTell form old new told
     → OnlyOut (out_named form) old.files new.files
 tells_only None old new told h = files_of_state old new h.1
@@ -241,7 +241,7 @@ cause_rose t name limit before now fails.Absent b there cause real = absurd (let
 cause_rose t name limit before now fails.TooLong b there cause real = absurd (too_long (t name) limit b there.0 there.1 cause)
 cause_rose t name limit before now fails.NoMemory b there cause real = absurd (real refl)
 
--- where files are told as they may be loaded, another cause counts as a fault
+-- where all files are there within their limits, a load that failed counted a fault
 fails_by_count : (t : Files) (before now : ℕ) (fs : List FileValue) (bs : List (List ℕ)) (name : List ℕ) (fail : LoadFail)
     → AreLoaded (Some t) fs bs → IsNotLoaded (Some t) before now fs name fail → fail ≢ fails.NoMemory → Rose before now
 fails_by_count t before now [] bs name fail h not real = absurd not
@@ -275,7 +275,7 @@ told_of form old new before after status not_sink not_memory (inr (told, tells, 
 told_of form old new before after status not_sink not_memory (inr (told, tells, inr (inl put))) = absurd (not_sink put.0)
 told_of form old new before after status not_sink not_memory (inr (told, tells, inr (inr put))) = absurd (not_memory put.0)
 
--- status 0 is told where it shows what it promises
+-- where status 0 is told, what it shows holds
 told_shows : (form : Option Form) (old new : StoreState) (told : Outcome) → WordsTell form old new told → told.status ≡ Done
     → Shows form old.files new.files
 told_shows None old new told h done = absurd (let e : Words ≡ Done = sym (status_of told _ h.0) ∙ done in cc)

@@ -113,6 +113,12 @@ pub numbering-within : (net : Network) (l : CellsValue) → AreCircuits net l
 numbering-within net l h =
     omega (arith, variable_count-is net l, variable_count-le net l h.is_net h.are_cells.cells.geometry h.are_cells.cone.count)
 
+-- so the variables up to those of the cone are few enough
+pub cone-within : (net : Network) (l : CellsValue) (flags : List Bool) → AreCircuits net l → flags ≡ l.cone
+    → 2 + (length net.inputs + length net.nodes) + row_count net + count_by (λ b. b) flags + length net.outputs ≤ MAX_VARIABLE + 1
+cone-within net l flags h e =
+    omega (arith, numbering-within net l h, nodes-is net l, row_count-is net l, ap (λ (bs : List Bool). count_by (λ b. b) bs) e)
+
 -- a numbering is that of a network and cells where each part is
 pub numbering-by_parts : (net : Network) (l : CellsValue) (m : NumberingValue) → m.inputs ≡ length net.inputs
     → m.rows ≡ map (λ (node : Node). length node.rows) net.nodes → m.cone ≡ l.cone

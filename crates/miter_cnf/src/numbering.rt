@@ -47,18 +47,18 @@ impl Model for Numbering {
     ghost Value = { NumberingValue };
 
     ghost view = { λ m. record {
-        inputs = m.inputs;
-        rows = m.rows.items;
-        cone = m.cone.items;
-        outputs = m.outputs;
+      inputs = m.inputs;
+      rows = m.rows.items;
+      cone = m.cone.items;
+      outputs = m.outputs;
     } };
 
     ghost invariant = { λ m.
         IsNumbering (record {
-            inputs = m.inputs;
-            rows = m.rows.items;
-            cone = m.cone.items;
-            outputs = m.outputs;
+          inputs = m.inputs;
+          rows = m.rows.items;
+          cone = m.cone.items;
+          outputs = m.outputs;
         })
         m.first_rows.items m.cells.items m.first_difference };
 }

@@ -3,9 +3,10 @@ use Rattle.std.specs.List.{count_by}
 use Rattle.fabric_defs.specs.Numbered.{list_of}
 use Rattle.miter_cnf.specs.Numbered.{NumberingValue, numbering_of, sum_before, flags_before, first_row, first_cell}
 use Rattle.miter_cnf.specs.Circuits.{AreCircuits}
-use Rattle.miter_cnf.proofs.NumberLemmas.{nodes-is, row_count-is, numbering-within, numbering-by_parts, IsNumbering-from}
+use Rattle.miter_cnf.proofs.NumberLemmas.{nodes-is, row_count-is, numbering-within, cone-within, numbering-by_parts, IsNumbering-from}
 use Rattle.miter_cnf.proofs.numbering.Numbering.of.Goals as goal
 
+-- the variables before the cells are few enough
 pub overflow_add-first_cell : goal.overflow_add-first_cell
 overflow_add-first_cell c =
     let net = c.args.net.now in
@@ -13,6 +14,7 @@ overflow_add-first_cell c =
     let h : AreCircuits net l = record { is_net = c.inputs-inputs.ensures.net; are_cells = c.cone.ensures.known; fits = c.requires } in
     omega (arith, numbering-within net l h, nodes-is net l, row_count-is net l)
 
+-- so are those of all rows
 pub sums_before-requires : goal.sums_before-requires
 sums_before-requires c =
     let net = c.args.net.now in
@@ -20,33 +22,24 @@ sums_before-requires c =
     let h : AreCircuits net l = record { is_net = c.inputs-inputs.ensures.net; are_cells = c.cone.ensures.known; fits = c.requires } in
     omega (arith, numbering-within net l h, nodes-is net l, ap sum (c.deref.ensures.value ∙ c.in_ok-rows.ensures))
 
+-- so are those of the cone
 pub flags_before-requires : goal.flags_before-requires
 flags_before-requires c =
     let net = c.args.net.now in
     let l = c.args.cells.now in
     let h : AreCircuits net l = record { is_net = c.inputs-inputs.ensures.net; are_cells = c.cone.ensures.known; fits = c.requires } in
-    omega (
-      arith,
-      numbering-within net l h,
-      nodes-is net l,
-      row_count-is net l,
-      ap (λ (bs : List Bool). count_by (λ b. b) bs) (c.deref-2.ensures.value ∙ c.in_ok-cone.ensures.items ∙ c.cone.ensures.value),
-    )
+    omega (arith, cone-within net l c.deref-2.result.now h (c.deref-2.ensures.value ∙ c.in_ok-cone.ensures.items ∙ c.cone.ensures.value))
 
+-- so are those before the differences
 pub overflow_add-result : goal.overflow_add-result
 overflow_add-result c =
     let net = c.args.net.now in
     let l = c.args.cells.now in
     let h : AreCircuits net l = record { is_net = c.inputs-inputs.ensures.net; are_cells = c.cone.ensures.known; fits = c.requires } in
-    omega (
-      arith,
-      numbering-within net l h,
-      nodes-is net l,
-      row_count-is net l,
-      c.count_flags.ensures
-          ∙ ap (λ (bs : List Bool). count_by (λ b. b) bs) (c.deref-3.ensures.value ∙ c.in_ok-cone.ensures.items ∙ c.cone.ensures.value),
-    )
+    let all = c.deref-3.ensures.value ∙ c.in_ok-cone.ensures.items ∙ c.cone.ensures.value in
+    omega (arith, cone-within net l c.deref-3.result.now h all, c.count_flags.ensures)
 
+-- the arrays begin where the variables of rows, cells and differences do
 pub invariant_of-result : goal.invariant_of-result
 invariant_of-result c =
     let net = c.args.net.now in

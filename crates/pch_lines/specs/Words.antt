@@ -1,9 +1,8 @@
 -- The forms of words that the program knows.
-use Rattle.std.specs.Prelude.{ℕ, List, [], ◌∷◌, Option, Some, None, String, string_bytes, codes, map, nat_le, if◌then◌else◌}
+use Rattle.std.specs.Prelude.{ℕ, List, [], ◌∷◌, Option, Some, None, String, string_bytes, codes, map, if◌then◌else◌}
 use Rattle.std.specs.Str.{bytes_eq}
 use Rattle.std.specs.declared.alloc.Global.{Global}
-use Rattle.text_defs.specs.Numbers.{number_in}
-use Rattle.pch_base.specs.Numbers.{at_most}
+use Rattle.text_defs.specs.Numbers.{number_in, at_most, at_least_one}
 use Rattle.fabric_defs.specs.declared.kind.CellKind.{CellKind}
 use Rattle.fabric_defs.specs.declared.kind.CellKind.TheVariants.{FourInputs, SixInputs}
 use Rattle.fabric_defs.specs.Geometries.{GeometryValue}
@@ -26,11 +25,6 @@ pub data Form : Type 0 where
   compact : List ℕ → List ℕ → Form
 
 -- ---- numbers and fabrics
-
--- the number, where there is one and it isn't 0
-abbrev pub at_least_one : Option ℕ → Option ℕ
-at_least_one None = None
-at_least_one (Some n) = if nat_le 1 n then Some n else None
 
 -- the number from 1 to the limit that the word spells
 abbrev pub count_in : ℕ → List ℕ → Option ℕ

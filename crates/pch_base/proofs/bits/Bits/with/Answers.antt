@@ -5,6 +5,7 @@ use Rattle.pch_base.proofs.BitLemmas.{bits_of-set, set_below, bits_of-clear, cle
 use Rattle.pch_base.proofs.bits.Bits.with.Goals as goal
 use Rattle.pch_base.proofs.bits.Bits.with.Goals.{then-b, else-b}
 
+-- a place in a list of n bits is below n
 within : (n w i : ℕ) (bs : List ℕ) → bits_of n w ≡ bs → i < length bs → i < n
 within n w i bs e lt = let long : length bs ≡ n = ap length (sym e) ∙ length-bits_of n w in omega arith
 

@@ -7,5 +7,5 @@ pub loop-l-preserved : goal.loop-l-preserved
 loop-l-preserved c x h =
     elim (Has-take_next c.args.lits.now c.loop-l.l-index c.l-item.result x (omega arith) h) [
       | inl earlier ↦ c.loop-l.invariant x earlier
-      | inr same ↦ subst IsLiteral (c.l-item.is ∙ same) c.variable-variable.ensures.within_limits
+      | inr same ↦ subst IsLiteral (c.l-item.is ∙ same) c.variable.ensures.within_limits
     ]

@@ -10,6 +10,6 @@ abbrev pub value_of : Bundle → BundleValue
 value_of b = record { version = b.version; geometry = b.geometry; config = b.config.now; trace = b.trace.now }
 
 -- the answer is the bundle of the bytes, or their first fault
-abbrev pub Gives : List ℕ → Result Bundle BundleError → Type 0
-Gives bytes (Ok b) = BundleOf bytes (Ok (value_of b))
-Gives bytes (Err e) = BundleOf bytes (Err e)
+abbrev pub GivesBundle : List ℕ → Result Bundle BundleError → Type 0
+GivesBundle bytes (Ok b) = BundleOf bytes (Ok (value_of b))
+GivesBundle bytes (Err e) = BundleOf bytes (Err e)

@@ -4,7 +4,7 @@ ghost use Rattle.fabric_defs.specs.declared.kind.CellKind.TheVariants.{FourInput
 ghost use Rattle.bundle_defs.specs.Bundles.{kind_of_version};
 ghost use Rattle.bundle_defs.specs.Faults.{HasVersion, HasHead, HasItsLength, HasItsDigest, BundleOf, number_at, version_in, geometry_in, config_length};
 ghost use Rattle.fabric.specs.Geometry.{of_kind};
-ghost use Rattle.bundle.specs.Values.{Gives};
+ghost use Rattle.bundle.specs.Values.{GivesBundle};
 
 use crate::layout::{DIGEST_BYTES, HEAD_BYTES, LAST_VERSION, LENGTH_BYTES, SIX_INPUTS_VERSION};
 use crate::value::Bundle;
@@ -18,7 +18,7 @@ use sha2::{Digest, Sha256};
 /// `Geometry`; `Lengths` where there aren't exactly as many bytes as both lengths demand; `Digest`.
 /// Takes no memory: the parts are those of the bytes.
 pub fn read_bundle(b: &[u8]) -> Result<Bundle<'_>, BundleError>
-    ensures { Gives b.now result }
+    ensures { GivesBundle b.now result }
 {
     let version = read_version(b)?;
     let geometry = read_geometry(b, version)?;

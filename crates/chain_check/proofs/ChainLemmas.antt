@@ -9,15 +9,19 @@ use Rattle.clause_laws.proofs.ClauseLemmas.{same_refl, same_sym, same_trans}
 use Rattle.clause_laws.proofs.Resolvents.{chain_same}
 use Rattle.chain_check.proofs.ClauseLists.{Has-get}
 
+-- the number at a place of a list is one of the list
 pub Has-get_or : (xs : List ℕ) (i : ℕ) → i < length xs → Has xs (get_or xs i 0)
 Has-get_or xs i lt = Has-get xs i (get_or xs i 0) lt (get_or_default xs i 0 (get_or xs i 0) lt)
 
+-- whether no literal clashes is told by the running clause as a set
 none_same : (r q c : Lits) → SameSet r q → NoClash r c → NoClash q c
 none_same r q c same none l h = none l ((same l).1 h.0, h.1)
 
+-- whether several literals clash is told by the running clause as a set
 several_same : (r q c : Lits) → SameSet r q → ManyClash r c → ManyClash q c
 several_same r q c same h = (h.0, h.1, h.2, ((same h.0).0 h.3.0, h.3.1), ((same h.1).0 h.4.0, h.4.1))
 
+-- a step from a running clause is one from the same set
 step_same : (r q c s : Lits) → SameSet r q → Step r c s → Step q c s
 step_same r q c s same step = record {
   pivot = step.pivot;
@@ -51,6 +55,7 @@ module _ (g : ℕ → Lits) (index : ℕ) where
   chain_begins [] r some same end h = absurd (omega arith)
   chain_begins (p ∷ ps) r some same end h = ends_same index None 1 r (g p) (map g ps) end same h
 
+  -- what the rest of a chain comes to from its first antecedent follows from all
   pub resolves_begins : (ps : List ℕ) (r : Lits) → 0 < length ps → SameSet r (g (get_or ps 0 0)) → (s : Lits)
       → Chain r (map g (drop 1 ps)) s → Resolves (map g ps) s
   resolves_begins [] r some same s h = absurd (omega arith)
@@ -63,6 +68,7 @@ module _ (g : ℕ → Lits) (index : ℕ) where
       subst (λ (qs : List ℕ). ChainEnds index None step r (map g qs) (Err (ChainError.ManyClash index step)))
       (sym (drop_more ps step 0 lt)) (inr (inl (several, refl)))
 
+  -- a chain ends where no literal clashes
   pub chain_clashes_never : (ps : List ℕ) (step : ℕ) (r : Lits) → step < length ps → NoClash r (g (get_or ps step 0))
       → ChainEnds index None step r (map g (drop step ps)) (Err (ChainError.NoClash index step))
   chain_clashes_never ps step r lt none =
@@ -75,6 +81,7 @@ module _ (g : ℕ → Lits) (index : ℕ) where
   chain_steps ps step r s lt one end h =
       subst (λ (qs : List ℕ). ChainEnds index None step r (map g qs) end) (sym (drop_more ps step 0 lt)) (inr (inr (s, one, h)))
 
+  -- what the rest of a chain comes to from behind a step it comes to from before it
   pub resolves_steps : (ps : List ℕ) (step : ℕ) (r s : Lits) → step < length ps → Step r (g (get_or ps step 0)) s → (q : Lits)
       → Chain s (map g (drop (step + 1) ps)) q → Chain r (map g (drop step ps)) q
   resolves_steps ps step r s lt one q h = subst (λ (qs : List ℕ). Chain r (map g qs) q) (sym (drop_more ps step 0 lt)) (s, one, h)
@@ -83,9 +90,11 @@ module _ (g : ℕ → Lits) (index : ℕ) where
   pub chain_stops : (ps : List ℕ) (step : ℕ) (r : Lits) → length ps ≤ step → ChainEnds index None step r (map g (drop step ps)) (Ok tt)
   chain_stops ps step r le = subst (λ (qs : List ℕ). ChainEnds index None step r (map g qs) (Ok tt)) (sym (drop_of_length-le ps le)) refl
 
+  -- behind its last antecedent a chain comes to the running clause
   pub resolves_stops : (ps : List ℕ) (step : ℕ) (r : Lits) → length ps ≤ step → Chain r (map g (drop step ps)) r
   resolves_stops ps step r le = subst (λ (qs : List ℕ). Chain r (map g qs) r) (sym (drop_of_length-le ps le)) (same_refl r)
 
+-- a list that is the same as one with an element has an element
 pub some_antecedent : (ps qs : List ℕ) → ps ≡ qs → (qs ≡ [] → ⊥) → 0 < length ps
 some_antecedent [] qs e ne = absurd (ne (sym e))
 some_antecedent (p ∷ ps) qs e ne = omega arith

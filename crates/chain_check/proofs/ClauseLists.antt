@@ -4,6 +4,7 @@ use Rattle.clause_defs.specs.Literals.{Literal, negation, code}
 use Rattle.clause_defs.specs.Clauses.{Lits, Has, IsOrdered}
 use Rattle.clause_laws.proofs.LiteralLemmas.{literal_cases, negation-negation}
 
+-- the first i + 1 elements are the first i and element i
 Has-take_suc : {X : Type 0} (xs : List X) (i : ℕ) (x y : X) → i < length xs → x ≡ get_or xs i x
     → Has (take (suc i) xs) y ↔ (Has (take i xs) y ⊎ (x ≡ y))
 Has-take_suc [] i x y lt e = absurd (omega arith)
@@ -26,12 +27,14 @@ pub Has-take_more : {X : Type 0} (xs : List X) (i : ℕ) (x y : X) → i < lengt
     → Has (take (i + 1) xs) y ↔ (Has (take i xs) y ⊎ (x ≡ y))
 Has-take_more xs i x y lt e = rw add-one (Has-take_suc xs i x y lt e)
 
+-- what stands among the first elements stands in the list
 pub Has-take : {X : Type 0} (xs : List X) (i : ℕ) (y : X) → Has (take i xs) y → Has xs y
 Has-take xs zero y h = absurd h
 Has-take [] (suc i) y h = absurd h
 Has-take (z ∷ zs) (suc i) y (inl e) = inl e
 Has-take (z ∷ zs) (suc i) y (inr h) = inr (Has-take zs i y h)
 
+-- the element at a place of a list is one of the list
 pub Has-get : {X : Type 0} (xs : List X) (i : ℕ) (x : X) → i < length xs → x ≡ get_or xs i x → Has xs x
 Has-get [] i x lt e = absurd (omega arith)
 Has-get (z ∷ zs) zero x lt e = inl (sym e)
@@ -59,6 +62,7 @@ take-distinct (m ∷ ms) (suc i) l o lt e (inr h) = take-distinct ms i l o.1 (om
 pub negation_swap : (l m : Literal) → negation l ≡ m → l ≡ negation m
 negation_swap l m e = sym (negation-negation l) ∙ ap negation e
 
+-- no literal is its own negation
 pub not_own_negation : (l : Literal) → l ≢ negation l
 not_own_negation l e = at_sign l.positive (ap (λ (m : Literal). m.positive) e)
   where
@@ -84,6 +88,7 @@ Has-snoc (z ∷ zs) y x =
 -- was taken out.
 module _ (s r o q c : Lits) (i : ℕ) (l : Literal) (lt : i < length c) (read : l ≡ get_or c i l)
     (left : (x : Literal) → Has r x ↔ (Has s x × (Has (take i c) x → ⊥))) where
+  -- what is left without one more literal of a clause has none of those gone through
   pub left_more : (t : Lits) → ((x : Literal) → Has t x ↔ (Has r x × (x ≢ l)))
       → (x : Literal) → Has t x ↔ (Has s x × (Has (take (i + 1) c) x → ⊥))
   left_more t removed x =
@@ -95,6 +100,7 @@ module _ (s r o q c : Lits) (i : ℕ) (l : Literal) (lt : i < length c) (read : 
       )
 
   module _ (moved : (x : Literal) → Has o x ↔ (Has q x ⊎ (Has s x × Has (take i c) x))) where
+    -- a literal that stands in the running clause is moved with those before it
     pub moved_more : Has r l → (x : Literal) → Has (o ++ l ∷ []) x ↔ (Has q x ⊎ (Has s x × Has (take (i + 1) c) x))
     moved_more there x =
         let more = Has-take_more c i l x lt read in (
@@ -108,6 +114,7 @@ module _ (s r o q c : Lits) (i : ℕ) (l : Literal) (lt : i < length c) (read : 
           ]),
         )
 
+    -- a literal that doesn't stand in the running clause leaves what was moved as it was
     pub moved_same : (Has r l → ⊥) → (x : Literal) → Has o x ↔ (Has q x ⊎ (Has s x × Has (take (i + 1) c) x))
     moved_same gone x =
         let more = Has-take_more c i l x lt read in (
@@ -124,6 +131,7 @@ module _ (s r o q c : Lits) (i : ℕ) (l : Literal) (lt : i < length c) (read : 
           ]),
         )
 
+-- a list of length 0 is empty
 pub no_length : {X : Type 0} (xs : List X) → length xs ≡ 0 → xs ≡ []
 no_length [] e = refl
 no_length (x ∷ xs) e = absurd (omega arith)

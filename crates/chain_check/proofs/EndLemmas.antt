@@ -12,16 +12,19 @@ use Rattle.chain_check.proofs.ChainLemmas.{ends_same}
 -- ---- with and without a stated clause
 
 module _ (index : ℕ) (c : Lits) where
+  -- a faulty step is the same fault whatever is stated
   ends_err : (step : ℕ) (r : Lits) (cs : List Lits) (e : ChainError) → ChainEnds index None step r cs (Err e) → ChainEnds index (Some c) step r cs (Err e)
   ends_err step r [] e h = absurd cc
   ends_err step r (d ∷ cs) e (inl h) = inl h
   ends_err step r (d ∷ cs) e (inr (inl h)) = inr (inl h)
   ends_err step r (d ∷ cs) e (inr (inr h)) = inr (inr (h.0, h.1, ends_err (step + 1) h.0 cs e h.2))
 
+  -- a chain that comes to the stated set has no fault
   ends_ok : (step : ℕ) (r : Lits) (cs : List Lits) (s : Lits) → Chain r cs s → SameSet s c → ChainEnds index (Some c) step r cs (Ok tt)
   ends_ok step r [] s h same = inl (same_trans r s c h same, refl)
   ends_ok step r (d ∷ cs) s h same = inr (inr (h.0, h.1, ends_ok (step + 1) h.0 cs s h.2 same))
 
+  -- a chain that comes to another set than the stated one has that fault
   ends_other : (step : ℕ) (r : Lits) (cs : List Lits) (s : Lits) → Chain r cs s → (SameSet s c → ⊥)
       → ChainEnds index (Some c) step r cs (Err (ChainError.Other index))
   ends_other step r [] s h other = inr ((λ k. other (same_trans s r c (same_sym r s h) k)), refl)
@@ -44,18 +47,22 @@ module _ (index : ℕ) (c : Lits) where
 
 -- ---- clauses that are the same as sets, one by one
 
+-- the lists have as many clauses, and clauses in the same place are the same set
 abbrev pub AllSame : List Lits → List Lits → Type 0
 AllSame [] [] = Unit {0}
 AllSame [] (d ∷ ds) = ⊥
 AllSame (c ∷ cs) [] = ⊥
 AllSame (c ∷ cs) (d ∷ ds) = SameSet c d × AllSame cs ds
 
+-- whether no literal clashes is told by the antecedent as a set
 none_other : (r c d : Lits) → SameSet c d → NoClash r c → NoClash r d
 none_other r c d same none l h = none l (h.0, (same (negation l)).1 h.1)
 
+-- whether several literals clash is told by the antecedent as a set
 many_other : (r c d : Lits) → SameSet c d → ManyClash r c → ManyClash r d
 many_other r c d same h = (h.0, h.1, h.2, (h.3.0, (same (negation h.0)).0 h.3.1), (h.4.0, (same (negation h.1)).0 h.4.1))
 
+-- a step with an antecedent is one with the same set
 step_other : (r c d s : Lits) → SameSet c d → Step r c s → Step r d s
 step_other r c d s same step = record {
   pivot = step.pivot;
@@ -68,6 +75,7 @@ step_other r c d s same step = record {
 }
 
 module _ (index : ℕ) (stated : Option Lits) where
+  -- a chain ends alike through clauses that are the same sets
   ends_among : (step : ℕ) (r : Lits) (cs ds : List Lits) (end : Result (Unit {0}) ChainError) → AllSame cs ds
       → ChainEnds index stated step r cs end → ChainEnds index stated step r ds end
   ends_among step r [] [] end same h = h
@@ -78,18 +86,21 @@ module _ (index : ℕ) (stated : Option Lits) where
   ends_among step r (c ∷ cs) (d ∷ ds) end same (inr (inr h)) =
       inr (inr (h.0, step_other r c d h.0 same.0 h.1, ends_among (step + 1) h.0 cs ds end same.1 h.2))
 
+  -- the chain of a clause ends alike through antecedents that are the same sets
   pub fault_among : (cs ds : List Lits) (end : Result (Unit {0}) ChainError) → AllSame cs ds → ChainFault index stated cs end → ChainFault index stated ds end
   fault_among [] [] end same h = h
   fault_among [] (d ∷ ds) end same h = absurd same
   fault_among (c ∷ cs) [] end same h = absurd same
   fault_among (c ∷ cs) (d ∷ ds) end same h = ends_same index stated 1 c d ds end same.0 (ends_among 1 c cs ds end same.1 h)
 
+-- a chain through clauses is one through clauses that are the same sets
 chain_among : (r : Lits) (cs ds : List Lits) (s : Lits) → AllSame cs ds → Chain r cs s → Chain r ds s
 chain_among r [] [] s same h = h
 chain_among r [] (d ∷ ds) s same h = absurd same
 chain_among r (c ∷ cs) [] s same h = absurd same
 chain_among r (c ∷ cs) (d ∷ ds) s same h = (h.0, step_other r c d h.0 same.0 h.1, chain_among h.0 cs ds s same.1 h.2)
 
+-- what follows from clauses follows from clauses that are the same sets
 pub resolves_among : (cs ds : List Lits) (s : Lits) → AllSame cs ds → Resolves cs s → Resolves ds s
 resolves_among [] [] s same h = h
 resolves_among [] (d ∷ ds) s same h = absurd same
@@ -98,6 +109,7 @@ resolves_among (c ∷ cs) (d ∷ ds) s same h = chain_same c d ds s same.0 (chai
 
 -- ---- where the literals of a chain's clause come from
 
+-- each literal that a chain ends with is of the clause that it begins with or of an antecedent
 chain_from : (r : Lits) (cs : List Lits) (s : Lits) (l : Literal) → Chain r cs s → Has s l → Has r l ⊎ ((c : Lits) × Has cs c × Has c l)
 chain_from r [] s l h in_s = inl ((h l).1 in_s)
 chain_from r (c ∷ cs) s l h in_s =
@@ -106,6 +118,7 @@ chain_from r (c ∷ cs) s l h in_s =
       | inr k ↦ inr (k.0, inr k.1, k.2)
     ]
 
+-- each literal of a clause that follows from others is of one of them
 pub resolves_from : (cs : List Lits) (s : Lits) (l : Literal) → Resolves cs s → Has s l → (c : Lits) × Has cs c × Has c l
 resolves_from [] s l h in_s = absurd h
 resolves_from (r ∷ cs) s l h in_s = elim (chain_from r cs s l h in_s) [ inl k ↦ (r, inl refl, k) | inr k ↦ (k.0, inr k.1, k.2) ]

@@ -8,6 +8,7 @@ use Rattle.clause_defs.specs.Clauses.{Lits, Has}
 use Rattle.chain_check.specs.Marks.{literals_where, is_running, is_fresh, IsKept}
 use Rattle.chain_check.proofs.MarkLemmas.{one_if, Has-literals_where, Has-set_passing, Has-set_failing, length-literals_set, literals_where-set_same, literals_where-none, length-literals_le, length-literals_add}
 
+-- the marks have a number for each literal of their variables
 code_within : (l : Literal) (variables : ℕ) → l.variable ≤ variables → code l < 2 * variables + 2
 code_within l variables h = at_sign l.variable l.positive h
   where
@@ -15,24 +16,31 @@ code_within l variables h = at_sign l.variable l.positive h
     at_sign v true k = omega arith
     at_sign v false k = omega arith
 
+-- a number from the chain's first one to before the step's marks a literal of the running clause
 running_true : (first current n : ℕ) → first ≤ n → n < current → is_running first current n ≡ true
 running_true first current n h k = grind (arith, nat_tests)
 
+-- a literal of the running clause has a number from the chain's first one to before the step's
 running_within : (first current n : ℕ) → is_running first current n ≡ true → (first ≤ n) × (n < current)
 running_within first current n h = grind (arith, nat_tests)
 
+-- a number from before the chain marks no literal of the running clause
 running_below : (first current n : ℕ) → n < first → is_running first current n ≡ false
 running_below first current n h = grind (arith, nat_tests)
 
+-- the step's number marks no literal of the running clause
 running_above : (first current n : ℕ) → current ≤ n → is_running first current n ≡ false
 running_above first current n h = grind (arith, nat_tests)
 
+-- the step's number marks a literal that the step adds
 fresh_true : (current n : ℕ) → n ≡ current → is_fresh current n ≡ true
 fresh_true current n h = grind (arith, nat_tests)
 
+-- no other number marks a literal that the step adds
 fresh_false : (current n : ℕ) → n ≢ current → is_fresh current n ≡ false
 fresh_false current n h = grind (arith, nat_tests)
 
+-- a literal that the step adds has the step's number
 fresh_is : (current n : ℕ) → is_fresh current n ≡ true → n ≡ current
 fresh_is current n h = grind (arith, nat_tests)
 
@@ -73,6 +81,7 @@ module _ (variables : ℕ) (ns : List ℕ) (first current count : ℕ) (kept : I
   running_none = literals_where-none (is_running (current + 1) (current + 1)) 0 ns (λ k lt. let small : get_or ns k 0 ≤ current = kept.none_later k in
       running_below (current + 1) (current + 1) (get_or ns k 0) (omega arith))
 
+  -- a later first number takes all literals out
   pub kept_cleared : IsKept variables ns (current + 1) (current + 1) 0
   kept_cleared = record {
     size = kept.size;
@@ -83,12 +92,14 @@ module _ (variables : ℕ) (ns : List ℕ) (first current count : ℕ) (kept : I
   }
 
   module _ (r f : Lits) (is_r : literals_where (is_running first current) 0 ns ≡ r) (is_f : literals_where (is_fresh current) 0 ns ≡ f) where
+    -- the literals that the step added count with those of the running clause
     settled_count : (added : ℕ) → added ≡ length f → count + added ≡ length (literals_where (is_running first (current + 1)) 0 ns)
     settled_count added e =
         let sum = length-literals_add (is_running first current) (is_fresh current) (is_running first (current + 1)) running_next 0 ns in
         let a : count ≡ length (literals_where (is_running first current) 0 ns) = kept.counted in
         let b : length (literals_where (is_fresh current) 0 ns) ≡ length f = ap length is_f in omega arith
 
+    -- with the next number, what the step added stands in the running clause
     pub kept_settled : (added : ℕ) → added ≡ length f → IsKept variables ns first (current + 1) (count + added)
     kept_settled added e = record {
       size = kept.size;
@@ -125,12 +136,15 @@ module _ (variables : ℕ) (ns : List ℕ) (first current count : ℕ) (kept : I
     )
 
     module _ (l : Literal) (within : l.variable ≤ variables) (place n : ℕ) (at : place ≡ code l) (read : n ≡ get_or ns place n) where
+      -- the literal has a number
       inside : code l < length ns
       inside = let a = code_within l variables within in let b = kept.size in omega arith
 
+      -- its number stands at the place of its code
       number_is : get_or ns (code l) 0 ≡ n
       number_is = sym (get_or_read ns place n (let i = inside in omega arith) read 0 ∙ ap (λ j. get_or ns j 0) at)
 
+      -- its number is at most the step's
       pub number_small : n ≤ current
       number_small = subst (λ m. m ≤ current) number_is (kept.none_later (code l))
 
@@ -155,17 +169,21 @@ module _ (variables : ℕ) (ns : List ℕ) (first current count : ℕ) (kept : I
         counted = kept.counted ∙ ap length (sym (running_same low));
       }
         where
+          -- a number that marks no literal of the running clause, exchanged for the step's, changes nothing in it
           running_same : n < first → literals_where (is_running first current) 0 (set ns place current) ≡ literals_where (is_running first current) 0 ns
           running_same low = literals_where-set_same (is_running first current) 0 ns place current
               (ap (λ j. is_running first current (get_or ns j 0)) at ∙ ap (is_running first current) number_is ∙ running_below first current n low ∙ sym (running_above first current current (omega arith)))
 
+      -- so the running clause stays as it is where the step adds a literal
       pub running_added : n < first → literals_where (is_running first current) 0 (set ns place current) ≡ r
       running_added low = literals_where-set_same (is_running first current) 0 ns place current
           (ap (λ j. is_running first current (get_or ns j 0)) at ∙ ap (is_running first current) number_is ∙ running_below first current n low ∙ sym (running_above first current current (omega arith))) ∙ is_r
 
+      -- a literal with an earlier number doesn't stand in the running clause
       pub not_running : n < first → Has r l → ⊥
       not_running low h = let w = Has-running.0 h in omega (arith, w.0)
 
+      -- the step has added the literal, where it doesn't stand in the running clause
       pub Has-added : n < first → (x : Literal)
           → Has (literals_where (is_fresh current) 0 (set ns place current)) x ↔ (Has f x ⊎ ((x ≡ l) × (Has r x → ⊥)))
       Has-added low x =
@@ -182,6 +200,7 @@ module _ (variables : ℕ) (ns : List ℕ) (first current count : ℕ) (kept : I
             ]),
           )
 
+      -- the step has added one literal more
       pub length-added : n < first → length (literals_where (is_fresh current) 0 (set ns place current)) ≡ length f + 1
       length-added low =
           let change = length-literals_set (is_fresh current) 0 ns (code l) current inside in
@@ -213,12 +232,15 @@ module _ (variables : ℕ) (ns : List ℕ) (first current count : ℕ) (kept : I
             | inr ne ↦ let small = number_small in omega arith
           ]
 
+      -- the number 0 marks no literal of the running clause
       zero_fails : is_running first current 0 ≡ false
       zero_fails = running_below first current 0 (let s : 1 ≤ first = kept.started in omega arith)
 
+      -- a literal with a later number, between steps, stands in the running clause
       pub found : first ≤ n → f ≡ [] → Has r l
       found high none = Has-running.1 (high, below_current none)
 
+      -- without the literal the running clause counts one less
       length_removed : first ≤ n → f ≡ [] → length (literals_where (is_running first current) 0 (set ns place 0)) + 1 ≡ count
       length_removed high none =
           let change = length-literals_set (is_running first current) 0 ns (code l) 0 inside in
@@ -229,12 +251,15 @@ module _ (variables : ℕ) (ns : List ℕ) (first current count : ℕ) (kept : I
           let new : one_if (is_running first current 0) ≡ 0 = ap one_if zero_fails in
           let e : count ≡ length (literals_where (is_running first current) 0 ns) = kept.counted in omega arith
 
+      -- without the literal the running clause has one literal less
       pub length-removed : first ≤ n → f ≡ [] → length (literals_where (is_running first current) 0 (set ns place 0)) + 1 ≡ length r
       length-removed high none = let e = length_removed high none in let k : count ≡ length (literals_where (is_running first current) 0 ns) = kept.counted in let s : length (literals_where (is_running first current) 0 ns) ≡ length r = ap length is_r in omega arith
 
+      -- a running clause in which a literal stands counts one at least
       pub some_counted : first ≤ n → f ≡ [] → 1 ≤ count
       some_counted high none = let e = length_removed high none in omega arith
 
+      -- with the number 0 in the literal's place the marks are still right
       pub kept_removed : first ≤ n → f ≡ [] → IsKept variables (set ns place 0) first current (count - 1)
       kept_removed high none = record {
         size = length-set ns place 0 ∙ kept.size;
@@ -244,6 +269,7 @@ module _ (variables : ℕ) (ns : List ℕ) (first current count : ℕ) (kept : I
         counted = let e = length_removed high none in omega arith;
       }
 
+      -- the running clause without the literal has its other ones
       pub Has-removed : (x : Literal) → Has (literals_where (is_running first current) 0 (set ns place 0)) x ↔ (Has r x × (x ≢ l))
       Has-removed x =
           let split = Has-set_failing (is_running first current) ns l 0 inside zero_fails x in
@@ -253,6 +279,7 @@ module _ (variables : ℕ) (ns : List ℕ) (first current count : ℕ) (kept : I
             λ h. subst (λ c. Has c x) (sym same) (split.1 (subst (λ c. Has c x) (sym is_r) h.0, h.1)),
           )
 
+      -- taking out a literal adds none
       pub fresh_removed : f ≡ [] → literals_where (is_fresh current) 0 (set ns place 0) ≡ []
       fresh_removed none =
           literals_where-set_same (is_fresh current) 0 ns place 0
@@ -268,6 +295,7 @@ module _ (variables : ℕ) (ns : List ℕ) (first current count : ℕ) (kept : I
 abbrev pub zeros : ℕ → List ℕ
 zeros size = replicate size 0
 
+-- a list of zeros has 0 everywhere
 zero_at : (size k : ℕ) → ◌≡◌ {A = ℕ} (get_or (zeros size) k 0) 0
 zero_at size k =
     elim (cases_lt k size) [
@@ -275,14 +303,17 @@ zero_at size k =
       | inr past ↦ get_or_past (zeros size) k 0 (let len : length (zeros size) ≡ size = length-replicate {A = ℕ} size 0 in omega arith)
     ]
 
+-- marks that were never written have an empty running clause
 pub running_zeros : (ns : List ℕ) (size : ℕ) → ns ≡ zeros size → literals_where (is_running 1 1) 0 ns ≡ []
 running_zeros ns size e =
     literals_where-none (is_running 1 1) 0 ns (λ k lt. ap (λ ms. is_running 1 1 (get_or ms k 0)) e ∙ ap (is_running 1 1) (zero_at size k))
 
+-- in marks that were never written no step adds a literal
 pub fresh_zeros : (ns : List ℕ) (size : ℕ) → ns ≡ zeros size → literals_where (is_fresh 1) 0 ns ≡ []
 fresh_zeros ns size e =
     literals_where-none (is_fresh 1) 0 ns (λ k lt. ap (λ ms. is_fresh 1 (get_or ms k 0)) e ∙ ap (is_fresh 1) (zero_at size k))
 
+-- zeros for all literals are marks of an empty running clause
 pub kept_zeros : (variables : ℕ) (ns : List ℕ) (size : ℕ) → ns ≡ zeros size → size ≡ 2 * variables + 2 → IsKept variables ns 1 1 0
 kept_zeros variables ns size e enough = record {
   size = ap length e ∙ length-replicate {A = ℕ} size 0 ∙ enough;

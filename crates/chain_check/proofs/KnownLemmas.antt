@@ -24,6 +24,7 @@ ordered_length (l ∷ ls) low high le o within =
     let rest = ordered_length ls (code l + 1) high (omega (arith, own.1)) o.1 (λ m h. let above : code l < code m = o.0 m h in let k = within m (inr h) in (omega arith, k.1)) in
     omega (arith, own.0)
 
+-- the codes of literals over so many variables begin at 2 and end before twice as many and 2
 code_range : (l : Literal) (variables : ℕ) → 1 ≤ l.variable → l.variable ≤ variables → (2 ≤ code l) × (code l < 2 * variables + 2)
 code_range l variables low high = at_sign l.variable l.positive low high
   where
@@ -31,6 +32,7 @@ code_range l variables low high = at_sign l.variable l.positive low high
     at_sign v true low high = (omega arith, omega arith)
     at_sign v false low high = (omega arith, omega arith)
 
+-- a clause has at most twice as many literals as there are variables
 pub over_length : (c : Lits) (variables : ℕ) → IsOrdered c → AreOver variables c → length c ≤ 2 * variables
 over_length c variables o over =
     let all = ordered_length c 2 (2 * variables + 2) (omega arith) o (λ l h. let k = over l h in code_range l variables k.0 k.1) in
@@ -61,10 +63,12 @@ with_antecedents f t w k (p ∷ ps) found ne h = h
 
 module _ (f : List Lits) (t : List Entry) (w k variables : ℕ) (computed : List Lits) (earlier : AntecedentsAreEarlier t)
     (known : IsKnownBefore t variables computed k) where
+  -- the antecedents of the clause have literals, the ones that are taken for theirs
   given : (cs : List Lits) × (antecedent_lits t k ≡ Some cs) × AllSame (antecedents_known t computed k) cs
   given = known_given (literals_at t computed) (LitsOf t) (antecedents_at t k) (λ p i. known.literals p (earlier k p i))
 
   module _ (derived : antecedents_at t k ≢ []) where
+    -- the fault of the chain through the known literals is the clause's
     fault_from : (stated : Option Lits) (end : Result (Unit {0}) ChainError) → stated_at t k ≡ stated
         → ChainFault (index_at t k) stated (antecedents_known t computed k) end
         → ClauseFault f t w k (derived_fault_of t w k stated end)
@@ -88,6 +92,7 @@ module _ (f : List Lits) (t : List Entry) (w k variables : ℕ) (computed : List
         → ClauseFault f t w k (Some (Verdict.Chain e))
     step_fault e h = by_stated (stated_at t k) refl
       where
+        -- a faulty step is the clause's fault, whether its literals are stated or not
         by_stated : (stated : Option Lits) → stated_at t k ≡ stated → ClauseFault f t w k (Some (Verdict.Chain e))
         by_stated None s = fault_from None (Err e) s h
         by_stated (Some c) s = fault_from (Some c) (Err e) s (fault_err (index_at t k) c (antecedents_known t computed k) e h)
@@ -118,11 +123,13 @@ module _ (f : List Lits) (t : List Entry) (w k variables : ℕ) (computed : List
             ∙ ap (λ o. computed_before t k + computed_size None o) lits_computed
 
         module _ (ends : ChainFault (index_at t k) None (antecedents_known t computed k) (Ok tt)) where
+          -- a computed clause that has room has no fault
           pub sign_right : computed_before t k + length s ≤ w → ClauseFault f t w k None
           sign_right narrow =
               subst (ClauseFault f t w k) (ap (λ b. if b then Some (Verdict.TooWide (index_at t k)) else None) (le-ltb w (computed_before t (k + 1)) (let more : computed_before t (k + 1) ≡ computed_before t k + length s = rw add-one computed_more in omega arith)))
               (fault_from None (Ok tt) sign ends)
 
+          -- a computed clause that has no room is one too many
           pub sign_wide : w < computed_before t k + length s → ClauseFault f t w k (Some (Verdict.TooWide (index_at t k)))
           sign_wide wide =
               subst (ClauseFault f t w k) (ap (λ b. if b then Some (Verdict.TooWide (index_at t k)) else None) (lt-ltb w (computed_before t (k + 1)) (let more : computed_before t (k + 1) ≡ computed_before t k + length s = rw add-one computed_more in omega arith)))
@@ -130,11 +137,13 @@ module _ (f : List Lits) (t : List Entry) (w k variables : ℕ) (computed : List
 
 -- ---- one more known clause
 
+-- where no literals were computed, those of a clause are the stated ones
 stated_last : (stated : Lits) (computed : Lits) → computed ≡ [] → stated_else stated computed ≡ stated
 stated_last [] computed e = e
 stated_last (l ∷ ls) computed e = refl
 
 module _ (t : List Entry) (variables : ℕ) (computed : List Lits) (k : ℕ) (known : IsKnownBefore t variables computed k) where
+  -- with a clause that is stated, one clause more is known
   pub known_stated : (c : Lits) → stated_at t k ≡ Some c → get_or computed k [] ≡ [] → IsKnownBefore t variables computed (suc k)
   known_stated c e none = record {
     literals = λ p lt. elim (cases_order p k) [
@@ -144,21 +153,26 @@ module _ (t : List Entry) (variables : ℕ) (computed : List Lits) (k : ℕ) (kn
     over = known.over;
   }
     where
+      -- the stated literals are the ones that are taken
       same : literals_at t computed k ≡ c
       same = stated_last (lits_at t k) (get_or computed k []) none ∙ ap literals_in e
 
+      -- they are those of the clause
       here : AreLiteralsOf (LitsOf t k) (literals_at t computed k)
       here = subst (λ o. AreLiteralsOf o (literals_at t computed k)) (sym (lits_stated t k c e))
           (subst (λ ls. SameSet ls c × (length ls ≡ length c)) (sym same) (same_refl c, refl))
 
   module _ (ls s : Lits) (lits : LitsOf t k ≡ Some s) (same : SameSet ls s) (long : length ls ≡ length s) (over : AreOver variables ls)
       (sign : IsCompactAt t k) (place : k < length computed) where
+    -- the literals that are put in a clause's place change no other clause's
     other_place : (p : ℕ) → (p ≡ k → ⊥) → literals_at t (set computed k ls) p ≡ literals_at t computed p
     other_place p ne = ap (stated_else (lits_at t p)) (get_or-set_other computed k p ls [] ne)
 
+    -- the literals that are put in a clause's place are taken for it
     own_place : literals_at t (set computed k ls) k ≡ ls
     own_place = ap (λ o. stated_else (literals_in o) (get_or (set computed k ls) k [])) sign ∙ get_or-set_same computed k ls [] place
 
+    -- with a clause that was computed, one clause more is known
     pub known_computed : IsKnownBefore t variables (set computed k ls) (suc k)
     known_computed = record {
       literals = λ p lt. elim (cases_order p k) [
@@ -187,15 +201,19 @@ known_nothing t variables computed none over = record {
 -- ---- how many literals are computed
 
 module _ (t : List Entry) (k : ℕ) where
+  -- a clause with the sign counts one
   pub signs_sign : IsCompactAt t k → signs_before t (suc k) ≡ signs_before t k + 1
   signs_sign e = ap (λ o. signs_before t k + sign_count o) e
 
+  -- a clause with stated literals counts none
   pub signs_stated : (c : Lits) → stated_at t k ≡ Some c → signs_before t (suc k) ≡ signs_before t k
   signs_stated c e = ap (λ o. signs_before t k + sign_count o) e ∙ omega arith
 
+  -- a clause with stated literals counts no computed literals
   pub computed_stated : (c : Lits) → stated_at t k ≡ Some c → computed_before t (suc k) ≡ computed_before t k
   computed_stated c e = ap (λ o. computed_before t k + computed_size o (LitsOf t k)) e ∙ omega arith
 
+-- before a later place there are no fewer clauses with the sign
 pub signs-mono : (t : List Entry) (k n : ℕ) → k ≤ n → signs_before t k ≤ signs_before t n
 signs-mono t k zero le = let e : k ≡ 0 = omega arith in rw e (omega arith)
 signs-mono t k (suc n) le = elim (cases_order k (suc n)) [
@@ -214,6 +232,7 @@ literals_stated t p = stated_last (lits_at t p) (get_or [] p []) (none p)
     none zero = refl
     none (suc p) = refl
 
+-- where no literals were computed, those of the antecedents are the stated ones
 pub antecedents_stated : (t : List Entry) (k : ℕ) → antecedents_known t [] k ≡ map (lits_at t) (antecedents_at t k)
 antecedents_stated t k = map_same (literals_at t []) (lits_at t) (antecedents_at t k) (λ p i. literals_stated t p)
 
@@ -234,6 +253,7 @@ end_stated t k some end h =
 pub known_earlier : (t : List Entry) (variables : ℕ) (computed : List Lits) (k n : ℕ) → k ≤ n → IsKnownBefore t variables computed n → IsKnownBefore t variables computed k
 known_earlier t variables computed k n le known = record { literals = λ p lt. known.literals p (omega arith); over = known.over }
 
+-- where the literals that are known are over the variables, the stated ones are
 within_else : (variables : ℕ) (stated computed : Lits) → AreOver variables (stated_else stated computed) → WithinVariables variables stated
 within_else variables [] computed over l h = absurd h
 within_else variables (m ∷ ms) computed over l h = (over l h).1

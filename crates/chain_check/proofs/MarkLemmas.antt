@@ -7,23 +7,28 @@ use Rattle.pch_base.specs.Lits.{literal_of}
 use Rattle.pch_base.specs.LitCodes.{literal_of-code, code-literal_of, code_injective}
 use Rattle.chain_check.specs.Marks.{with_literal, literals_where}
 
+-- 1 for a literal that is taken, 0 for one that isn't
 abbrev pub one_if : Bool → ℕ
 one_if true = 1
 one_if false = 0
 
+-- a literal that was there still is with one more taken or not
 Has-with_literal : (b : Bool) (l : Literal) (ls : Lits) (x : Literal) → Has ls x → Has (with_literal b l ls) x
 Has-with_literal true l ls x h = inr h
 Has-with_literal false l ls x h = h
 
+-- a literal that is taken is there
 Has-with_first : (b : Bool) (l : Literal) (ls : Lits) → b ≡ true → Has (with_literal b l ls) l
 Has-with_first true l ls e = inl refl
 Has-with_first false l ls e = cc
 
+-- a literal that is there was taken or was there before
 with_literal-cases : (b : Bool) (l : Literal) (ls : Lits) (x : Literal) → Has (with_literal b l ls) x → ((b ≡ true) × (l ≡ x)) ⊎ Has ls x
 with_literal-cases true l ls x (inl h) = inl (refl, h)
 with_literal-cases true l ls x (inr h) = inr h
 with_literal-cases false l ls x h = inr h
 
+-- one literal more if it is taken
 length-with_literal : (b : Bool) (l : Literal) (ls : Lits) → length (with_literal b l ls) ≡ one_if b + length ls
 length-with_literal true l ls = omega arith
 length-with_literal false l ls = omega arith
@@ -44,12 +49,14 @@ has_at test at (n ∷ ns) x (suc i) e lt h =
 abbrev Place : (ℕ → Bool) → ℕ → List ℕ → Literal → Type 0
 Place test at ns x = (i : ℕ) × (code x ≡ at + i) × (i < length ns) × (test (get_or ns i 0) ≡ true)
 
+-- a place found among the later numbers is one among all
 place_later : (test : ℕ → Bool) (at n : ℕ) (ns : List ℕ) (x : Literal) → Place test (at + 1) ns x → Place test at (n ∷ ns) x
 place_later test at n ns x p =
     let e : code x ≡ at + 1 + p.0 = p.1 in
     let lt : p.0 < length ns = p.2 in
     (suc p.0, omega arith, omega arith, p.3)
 
+-- each literal that passes the test has a place whose number passes it
 place_of : (test : ℕ → Bool) (at : ℕ) (ns : List ℕ) (x : Literal) → Has (literals_where test at ns) x → Place test at ns x
 place_of test at [] x h = absurd h
 place_of test at (n ∷ ns) x h =
@@ -146,6 +153,7 @@ length-literals_le test at (n ∷ ns) =
     let b = length-literals_le test (at + 1) ns in
     let c = at_most_one (test n) in omega arith
   where
+    -- a literal counts one at most
     at_most_one : (b : Bool) → one_if b ≤ 1
     at_most_one true = omega arith
     at_most_one false = omega arith
@@ -161,6 +169,7 @@ length-literals_add t u both h at (n ∷ ns) =
     let d = length-literals_add t u both h (at + 1) ns in
     let e = h n in omega arith
 
+-- a literal taken in front of literals with greater codes leaves them in their order
 ordered_if : (b : Bool) (l : Literal) (ls : Lits) → ((m : Literal) → Has ls m → code l < code m) → IsOrdered ls → IsOrdered (with_literal b l ls)
 ordered_if true l ls above o = (above, o)
 ordered_if false l ls above o = o

@@ -10,19 +10,23 @@ pub after_ok : {X E Y : Type 0} (r : Result X E) (a b o : Y) → IsOk r → o �
 after_ok (Ok x) a b o k e = e
 after_ok (Err x) a b o k e = absurd cc
 
+-- the beginning of a list is the same with more behind it
 take_front : {X : Type 0} (xs ys : List X) (n : ℕ) → n ≤ length xs → take n (xs ++ ys) ≡ take n xs
 take_front xs ys zero le = refl
 take_front [] ys (suc n) le = absurd (omega arith)
 take_front (x ∷ xs) ys (suc n) le = ap (λ zs. x ∷ zs) (take_front xs ys n (omega arith))
 
+-- a part of a list is the same with more behind the list
 part_kept : {X : Type 0} (xs ys : List X) (k n : ℕ) → k + n ≤ length xs → take n (drop k (xs ++ ys)) ≡ take n (drop k xs)
 part_kept xs ys zero n le = take_front xs ys n (omega arith)
 part_kept [] ys (suc k) n le = absurd (omega arith)
 part_kept (x ∷ xs) ys (suc k) n le = part_kept xs ys k n (omega arith)
 
+-- what was put behind a list is the part that begins at its end
 part_new : {X : Type 0} (xs ys : List X) → take (length ys) (drop (length xs) (xs ++ ys)) ≡ ys
 part_new [] ys = whole ys
   where
+    -- a list is its own beginning of its length
     whole : {X : Type 0} (ys : List X) → take (length ys) ys ≡ ys
     whole [] = refl
     whole (y ∷ ys) = ap (λ zs. y ∷ zs) (whole ys)
@@ -53,10 +57,12 @@ parts_none lits spans n e = ap (parts_of lits) e ∙ each n
     each zero = refl
     each (suc n) = ap (λ ps. [] ∷ ps) (each n)
 
+-- nothing is left of an empty list
 drop_none : {X : Type 0} (n : ℕ) → drop {A = X} n [] ≡ []
 drop_none zero = refl
 drop_none (suc n) = refl
 
+-- an empty list begins with nothing
 take_none : {X : Type 0} (n : ℕ) → take {A = X} n [] ≡ []
 take_none zero = refl
 take_none (suc n) = refl

@@ -17,6 +17,7 @@ use Rattle.chain_check.proofs.ClauseLists.{Has-take_more, has_cases}
 use Rattle.chain_check.proofs.EndLemmas.{place_from}
 use Rattle.chain_check.proofs.KnownLemmas.{known_stated, known_computed, over_length, lits_computed, computed_more, computed_stated, signs_stated, signs_sign, signs-mono, there, stated_right, stated_other}
 
+-- what holds in each case holds where there is no fault
 pub if_none : {V X : Type 0} (r : Option V) → X → IfNone r X
 if_none None x = x
 if_none (Some v) x = tt
@@ -46,6 +47,7 @@ knows_stated t k room c e knows = rw add-one (record {
 pub original_stated : (t : List Entry) (k : ℕ) → IsTrace t → k < length t → antecedents_at t k ≡ [] → stated_at t k ≡ Some (lits_at t k)
 original_stated t k is within none = there (stated_at t k) (λ sign. is.derived k within sign none)
 
+-- a clause over v variables with s others of them has room for 2 v (s + 1) literals
 narrow_more : (v s a b : ℕ) → a ≤ 2 * v * s → b ≤ 2 * v → a + b ≤ 2 * v * (s + 1)
 narrow_more v s a b h k = let more : 2 * v * (s + 1) ≡ 2 * v * s + 2 * v = omega arith in omega arith
 
@@ -53,16 +55,20 @@ narrow_more v s a b h k = let more : 2 * v * (s + 1) ≡ 2 * v * s + 2 * v = ome
 
 module _ (t : List Entry) (k : ℕ) (room : Room) (is : IsTrace t) (within : k < length t) (for : IsRoomFor t room) (knows : KnowsBefore t room k)
     (s : Lits) (chain : Resolves (antecedents_known t room.computed.clauses k) s) (ordered : IsOrdered s) where
+  -- each literal that the chain came to is of an antecedent
   pub chain_place : (l : Literal) → Has s l → (p : ℕ) × Has (antecedents_at t k) p × Has (literals_at t room.computed.clauses p) l
   chain_place l h = place_from (literals_at t room.computed.clauses) (antecedents_at t k) s l chain h
 
+  -- what the chain came to is over the variables of the marks
   pub chain_over : AreOver room.marks.variables s
   chain_over l h = let p = chain_place l h in knows.known.over p.0 l p.2
 
+  -- so it has at most two literals for each of them
   pub chain_length : length s ≤ 2 * room.marks.variables
   chain_length = over_length s room.marks.variables ordered chain_over
 
   module _ (sign : IsCompactAt t k) where
+    -- with it the computed clauses have at most two literals for each variable and each of them
     total_narrow : room.computed.total + length s ≤ 2 * room.marks.variables * signs_before t (suc k)
     total_narrow =
         subst (λ n. room.computed.total + length s ≤ 2 * room.marks.variables * n) (sym (signs_sign t k sign))
@@ -97,6 +103,7 @@ module _ (t : List Entry) (k : ℕ) (room : Room) (is : IsTrace t) (within : k <
 
 -- ---- the last clause
 
+-- the literals known of a clause are none just where the clause is empty
 ends_with : (o : Option Lits) (ls : Lits) → AreLiteralsOf o ls → (ls ≡ [] → o ≡ Some []) × (o ≡ Some [] → ls ≡ [])
 ends_with None ls are = absurd are
 ends_with (Some []) [] are = (λ e. refl, λ e. refl)
@@ -104,6 +111,7 @@ ends_with (Some []) (l ∷ ls) are = absurd ((are.0 l).0 (inl refl))
 ends_with (Some (m ∷ ms)) [] are = absurd ((are.0 m).1 (inl refl))
 ends_with (Some (m ∷ ms)) (l ∷ ls) are = (λ e. absurd cc, λ e. absurd cc)
 
+-- the last clause's known literals are none just where the trace ends with the empty clause
 pub last_empty : (t : List Entry) (room : Room) → KnowsBefore t room (length t) → 0 < length t
     → (literals_at t room.computed.clauses (length t - 1) ≡ [] → EndsEmpty t) × (EndsEmpty t → literals_at t room.computed.clauses (length t - 1) ≡ [])
 last_empty t room knows some =
@@ -113,6 +121,7 @@ last_empty t room knows some =
 -- ---- a clause moved out of the marks
 
 module _ (s o r o2 r2 c : Lits) where
+  -- what was moved and what is left are, behind one more antecedent, still the running clause
   pub split_more : ((x : Literal) → Has s x ↔ (Has o x ⊎ Has r x)) → ((x : Literal) → Has r2 x ↔ (Has r x × (Has c x → ⊥)))
       → ((x : Literal) → Has o2 x ↔ (Has o x ⊎ (Has r x × Has c x))) → (x : Literal) → Has s x ↔ (Has o2 x ⊎ Has r2 x)
   split_more split left moved x = (
@@ -126,6 +135,7 @@ module _ (s o r o2 r2 c : Lits) where
     ],
   )
 
+-- what is left of the running clause behind one more antecedent is in none of those gone through
 pub gone_more : (g : ℕ → Lits) (r r2 : Lits) (ps : List ℕ) (i p : ℕ) → i < length ps → p ≡ get_or ps i p
     → ((x : Literal) → Has r2 x ↔ (Has r x × (Has (g p) x → ⊥)))
     → ((x : Literal) → Has r x → (q : ℕ) → Has (take i ps) q → Has (g q) x → ⊥)
@@ -148,6 +158,7 @@ all_moved s o r split none x = (
 module _ (f : List Lits) (t : List Entry) (k w variables : ℕ) (computed : List Lits) (earlier : AntecedentsAreEarlier t)
     (known : IsKnownBefore t variables computed k) (derived : antecedents_at t k ≢ []) (s : Lits) (chain : Resolves (antecedents_known t computed k) s)
     (stated : stated_at t k ≡ Some (lits_at t k)) where
+  -- a chain that comes to the stated set or another one gives the clause no fault or that one
   pub differs_fault : (r : Option Verdict) → IfNone r (SameSet s (lits_at t k))
       → IfSome r (λ v. (v ≡ Verdict.Chain (ChainError.Other (index_at t k))) × (SameSet s (lits_at t k) → ⊥)) → ClauseFault f t w k r
   differs_fault None same other = stated_right f t w k variables computed earlier known derived s chain (lits_at t k) stated same
@@ -157,11 +168,13 @@ module _ (f : List Lits) (t : List Entry) (k w variables : ℕ) (computed : List
 
 -- ---- a new room
 
+-- behind its end a trace states no literals
 pub past_end : (t : List Entry) (p : ℕ) → length t ≤ p → stated_at t p ≡ Some []
 past_end [] p le = refl
 past_end (e ∷ es) zero le = absurd (omega arith)
 past_end (e ∷ es) (suc p) le = past_end es p (omega arith)
 
+-- each clause of a trace is over the variables that bound its literals
 pub over_all : (t : List Entry) (variables : ℕ) → IsTrace t → ((p : ℕ) → WithinVariables variables (lits_at t p)) → (p : ℕ) → AreOver variables (lits_at t p)
 over_all t variables is within p l h = elim (cases_lt p (length t)) [
   | inl lt ↦ (((is.clauses p lt).literals l h).0, within p l h)
@@ -172,6 +185,7 @@ over_all t variables is within p l h = elim (cases_lt p (length t)) [
 pub sign_within : (t : List Entry) (p : ℕ) → IsCompactAt t p → p < length t
 sign_within t p sign = elim (cases_lt p (length t)) [ inl lt ↦ lt | inr past ↦ absurd (let e = past_end t p past in cc) ]
 
+-- a trace in which a clause has the sign counts one at least
 pub sign_counted : (t : List Entry) (p : ℕ) → IsCompactAt t p → 1 ≤ signs_before t (length t)
 sign_counted t p sign =
     let within = sign_within t p sign in

@@ -23,6 +23,7 @@ module _ (r c : Lits) (i : ℕ) (l : Literal) (lt : i < length c) (read : l ≡ 
         ],
       )
 
+  -- one more literal whose negation isn't in the running clause clashes with none
   none_still : (Has r (negation l) → ⊥) → NoClash r (take i c) → NoClash r (take (i + 1) c)
   none_still calm before x h =
       elim ((Has-take_more c i l (negation x) lt read).0 h.1) [
@@ -30,6 +31,7 @@ module _ (r c : Lits) (i : ℕ) (l : Literal) (lt : i < length c) (read : l ≡ 
         | inr e ↦ calm (subst (Has r) (negation_swap x l (sym e)) h.0)
       ]
 
+  -- one more literal whose negation isn't in the running clause leaves the pivot as it is
   pub pivot_same : (p : Option Literal) → (Has r (negation l) → ⊥) → IsPivot r (take i c) p → IsPivot r (take (i + 1) c) p
   pivot_same None calm before = none_still calm before
   pivot_same (Some p) calm before = (
@@ -51,6 +53,7 @@ module _ (r c : Lits) (i : ℕ) (l : Literal) (lt : i < length c) (read : l ≡ 
         ],
       )
 
+  -- the literal that clashes is the pivot where no other one does
   pivot_new : Has r (negation l) → ((x : Literal) → Clashes r (take i c) x → x ≡ negation l) → IsPivot r (take (i + 1) c) (Some (negation l))
   pivot_new clash before = (
     (clash, (Has-take_more c i l (negation (negation l)) lt read).1 (inr (sym (negation-negation l)))),
@@ -60,6 +63,7 @@ module _ (r c : Lits) (i : ℕ) (l : Literal) (lt : i < length c) (read : l ≡ 
     ],
   )
 
+  -- the first clashing literal becomes the pivot
   pub pivot_first : Has r (negation l) → IsPivot r (take i c) None → IsPivot r (take (i + 1) c) (Some (negation l))
   pivot_first clash before = pivot_new clash (λ x h. absurd (before x h))
 

@@ -10,9 +10,11 @@ pub record ClausesByPlace : Type 0 where
   pub total : ℕ
   pub room : ℕ
 
+-- the literals of the array that the span bounds
 abbrev pub part_of : Lits → Span → Lits
 part_of lits s = take s.len (drop s.start lits)
 
+-- the literals of each span, by place
 abbrev pub parts_of : Lits → List Span → List Lits
 parts_of lits spans = map (part_of lits) spans
 

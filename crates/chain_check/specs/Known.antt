@@ -5,6 +5,7 @@ use Rattle.clause_defs.specs.Clauses.{Lits, Has, SameSet}
 use Rattle.clause_defs.specs.Traces.{Entry, stated_at, lits_at, antecedents_at}
 use Rattle.clause_defs.specs.TraceClauses.{LitsOf}
 
+-- the stated literals, or the computed ones where none are stated
 abbrev pub stated_else : Lits → Lits → Lits
 stated_else [] computed = computed
 stated_else (l ∷ ls) computed = l ∷ ls
@@ -31,6 +32,7 @@ pub record IsKnownBefore (t : List Entry) (variables : ℕ) (computed : List Lit
   pub literals : (p : ℕ) → p < k → AreLiteralsOf (LitsOf t p) (literals_at t computed p)
   pub over : (p : ℕ) → AreOver variables (literals_at t computed p)
 
+-- 1 for a clause with the sign, 0 for one whose literals are stated
 abbrev pub sign_count : Option Lits → ℕ
 sign_count None = 1
 sign_count (Some c) = 0

@@ -13,6 +13,7 @@ pub record Marked : Type 0 where
   -- the steps that the numbers are enough for
   pub left : ℕ
 
+-- the literals with one more in front, if it is taken
 abbrev pub with_literal : Bool → Literal → Lits → Lits
 with_literal true l ls = l ∷ ls
 with_literal false l ls = ls

@@ -109,7 +109,7 @@ impl Marks {
         ensures { IsTrue result ↔ Has self.now.running l }
     {
         let number = u64::from(self.numbers[l.code() as usize]);
-        self.first <= number && number < self.current
+        (self.first..self.current).contains(&number)
     }
 
     /// Adds a literal in the step in work, and says whether it stood in neither the running clause
@@ -121,7 +121,8 @@ impl Marks {
         ensures running { self.new.running ≡ self.old.running }
         ensures left { self.new.left ≡ self.old.left }
         ensures fresh { (x : Literal)
-            → Has self.new.fresh x ↔ (Has self.old.fresh x ⊎ ((x ≡ l) × (Has self.old.running x → ⊥))) }
+            → Has self.new.fresh x
+            ↔ (Has self.old.fresh x ⊎ ((x ≡ l) × (Has self.old.running x → ⊥))) }
         ensures new { OnTrue result (length self.new.fresh ≡ length self.old.fresh + 1) }
         ensures there { OnFalse result (length self.new.fresh ≡ length self.old.fresh) }
     {
@@ -139,7 +140,8 @@ impl Marks {
         requires counted { added ≡ length self.old.fresh }
         requires room { 0 < self.old.left }
         ensures variables { self.new.variables ≡ self.old.variables }
-        ensures running { (x : Literal) → Has self.new.running x ↔ (Has self.old.running x ⊎ Has self.old.fresh x) }
+        ensures running { (x : Literal) → Has self.new.running x
+            ↔ (Has self.old.running x ⊎ Has self.old.fresh x) }
         ensures fresh { self.new.fresh ≡ [] }
         ensures left { self.new.left + 1 ≡ self.old.left }
     {
@@ -152,7 +154,8 @@ impl Marks {
         requires within { l.variable ≤ self.old.variables }
         requires between_steps { self.old.fresh ≡ [] }
         ensures variables { self.new.variables ≡ self.old.variables }
-        ensures running { (x : Literal) → Has self.new.running x ↔ (Has self.old.running x × (x ≢ l)) }
+        ensures running { (x : Literal) → Has self.new.running x
+            ↔ (Has self.old.running x × (x ≢ l)) }
         ensures fresh { self.new.fresh ≡ [] }
         ensures left { self.new.left ≡ self.old.left }
         ensures found { IsTrue result ↔ Has self.old.running l }
@@ -272,7 +275,8 @@ impl Marks {
         ensures running { (x : Literal)
             → Has self.new.running x ↔ (Has self.old.running x × (Has c.now x → ⊥)) }
         ensures moved { (x : Literal)
-            → Has list.new.items x ↔ (Has list.old.items x ⊎ (Has self.old.running x × Has c.now x)) }
+            → Has list.new.items x
+            ↔ (Has list.old.items x ⊎ (Has self.old.running x × Has c.now x)) }
         ensures all { length list.new.items + length self.new.running
             ≡ length list.old.items + length self.old.running }
         ensures room { vec_capacity list.new ≡ vec_capacity list.old }

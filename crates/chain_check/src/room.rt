@@ -153,7 +153,8 @@ impl Room {
         ensures limit { self.new.limit ≡ self.old.limit }
         ensures right { IfNone result
             (IsCompactAt t.now k → (f : List Lits) → ClauseFault f t.now self.old.limit k None) }
-        ensures fault { IfSome result (λ v. (f : List Lits) → ClauseFault f t.now self.old.limit k (Some v)) }
+        ensures fault { IfSome result
+            (λ v. (f : List Lits) → ClauseFault f t.now self.old.limit k (Some v)) }
         ensures knows { IfNone result (KnowsBefore t.now self.new (k + 1)) }
         ensures still { IfSome result (λ v. KnowsBefore t.now self.new k) }
     {
@@ -183,7 +184,6 @@ impl Room {
         ensures variables { m.new.variables ≡ m.old.variables }
     {
         let (spans, lits) = self.computed.parts();
-        let _len = t.len();
         for k in from..to {
             if !t.is_compact(k)
                 && let Some(fault) = stated_fault(f, t, spans, lits, k, m)
@@ -205,7 +205,8 @@ impl Room {
         requires between_steps { self.old.marks.fresh ≡ [] }
         requires end { ChainFault (index_at t.now k) None
             (antecedents_known t.now self.old.computed.clauses k) (Ok tt) }
-        requires clause { Resolves (antecedents_known t.now self.old.computed.clauses k) self.old.marks.running }
+        requires clause { Resolves
+            (antecedents_known t.now self.old.computed.clauses k) self.old.marks.running }
         ensures room { IsRoomFor t.now self.new }
         ensures limit { self.new.limit ≡ self.old.limit }
         ensures fault { (f : List Lits) → ClauseFault f t.now self.old.limit k result }
@@ -269,7 +270,8 @@ fn gather(t: &Trace, spans: &[Span], lits: &[Lit], k: u32, m: &mut Marks, list: 
         → WithinVariables m.old.variables (literals_at t.now (parts_of lits.now spans.now) p) }
     requires between_steps { m.old.fresh ≡ [] }
     requires antecedents { (l : Literal) → Has m.old.running l → (p : ℕ)
-        × Has (antecedents_at t.now k) p × Has (literals_at t.now (parts_of lits.now spans.now) p) l }
+        × Has (antecedents_at t.now k) p
+        × Has (literals_at t.now (parts_of lits.now spans.now) p) l }
     requires empty { list.old.items ≡ [] }
     requires room { length m.old.running ≤ vec_capacity list.old }
     ensures same { SameSet list.new.items m.old.running }

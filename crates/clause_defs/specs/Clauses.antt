@@ -49,6 +49,7 @@ pub record IsAssignment (variables : ℕ) (a : List ℕ) : Type 0 where
   pub all_variables : length a ≡ variables
   pub bits : (b : ℕ) → Has a b → b ≤ 1
 
+-- the assignment gives the literal's variable the bit that the literal asks for
 abbrev pub IsTrueUnder : List ℕ → Literal → Type 0
 IsTrueUnder a l = slice_get a (l.variable - 1) ≡ Some (if l.positive then 1 else 0)
 

@@ -2,6 +2,7 @@
 use Rattle.std.specs.Prelude.{ℕ, ◌+◌, ◌<◌, ◌||◌, ◌&&◌, Bool, true, false, List, [], ◌∷◌, length, None, if◌then◌else◌}
 use Rattle.clause_defs.specs.Traces.{Entry, IsCompactAt, literals_in}
 
+-- the list names some antecedent
 abbrev pub has_antecedents : List ℕ → Bool
 has_antecedents [] = false
 has_antecedents (p ∷ ps) = true
@@ -28,6 +29,7 @@ compacted (e ∷ es) = (if is_derived e && any_derived es then with_sign e else 
 abbrev pub AllStated : List Entry → Type 0
 AllStated t = (k : ℕ) → k < length t → IsCompactAt t k → ⊥
 
+-- how many literals the clause states, if it is derived; an original counts nothing
 abbrev pub derived_size : Entry → ℕ
 derived_size e = if is_derived e then length (literals_in e.stated) else 0
 

@@ -2,6 +2,7 @@
 use Rattle.std.specs.Prelude.{ℕ, ◌+◌, ◌*◌, ◌≤◌, Bool, not, if◌then◌else◌}
 use Rattle.clause_defs.specs.declared.verdict.TheConstants.{MAX_VARIABLE}
 
+-- a variable, where `positive` is true, or else its negation
 pub record Literal : Type 0 where
   pub variable : ℕ
   pub positive : Bool

@@ -44,6 +44,7 @@ is_among l (m ∷ ms) = (code m == code l) || is_among l ms
 abbrev pub clashing : Lits → Lits → Lits
 clashing r c = filter (λ l. is_among (negation l) c) (clause_of r)
 
+-- the clause without the literal
 abbrev pub without : Literal → Lits → Lits
 without l c = filter (λ m. not (code m == code l)) c
 
@@ -57,6 +58,7 @@ resolvent_by [] r c = None
 resolvent_by (l ∷ []) r c = Some (resolvent_on l r c)
 resolvent_by (l ∷ m ∷ ls) r c = None
 
+-- r and c resolved, if just one literal clashes
 abbrev pub resolvent_of : Lits → Lits → Option Lits
 resolvent_of r c = resolvent_by (clashing r c) r c
 

@@ -5,6 +5,7 @@ use Rattle.clause_defs.specs.Clauses.{Lits}
 use Rattle.clause_defs.specs.Resolution.{chain_of}
 use Rattle.clause_defs.specs.Traces.{Entry, stated_at, antecedents_at}
 
+-- the clause before the others, if none of them is missing
 abbrev pub given_with : Option Lits → Option (List Lits) → Option (List Lits)
 given_with None cs = None
 given_with (Some c) None = None

@@ -11,14 +11,17 @@ pub record Entry : Type 0 where
   pub stated : Option Lits
   pub antecedents : List ℕ
 
+-- the stated literals of an entry, or the sign; an absent entry states no literals
 abbrev pub stated_of : Option Entry → Option Lits
 stated_of None = Some []
 stated_of (Some e) = e.stated
 
+-- the antecedents of an entry; an absent one has none
 abbrev pub antecedents_of : Option Entry → List ℕ
 antecedents_of None = []
 antecedents_of (Some e) = e.antecedents
 
+-- the index of an entry; 0, which is no index, where there is none
 abbrev pub index_of : Option Entry → ℕ
 index_of None = 0
 index_of (Some e) = e.index
@@ -32,12 +35,15 @@ literals_in (Some c) = c
 abbrev pub stated_at : List Entry → ℕ → Option Lits
 stated_at t k = stated_of (slice_get t k)
 
+-- the stated literals of clause k, counted from 0: none where the sign stands
 abbrev pub lits_at : List Entry → ℕ → Lits
 lits_at t k = literals_in (stated_at t k)
 
+-- the places of the antecedents of clause k, counted from 0
 abbrev pub antecedents_at : List Entry → ℕ → List ℕ
 antecedents_at t k = antecedents_of (slice_get t k)
 
+-- the index of clause k, counted from 0
 abbrev pub index_at : List Entry → ℕ → ℕ
 index_at t k = index_of (slice_get t k)
 

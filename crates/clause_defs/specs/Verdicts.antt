@@ -41,6 +41,7 @@ abbrev pub compact_fault_of : ℕ → ℕ → ℕ → Result (Unit {0}) ChainErr
 compact_fault_of index literals w (Ok _) = if nat_lt w literals then Some (TooWide index) else None
 compact_fault_of index literals w (Err e) = Some (Chain e)
 
+-- the fault of clause k of the trace, whose chain ends so: with the sign it may also be too wide
 abbrev pub derived_fault_of : List Entry → ℕ → ℕ → Option Lits → Result (Unit {0}) ChainError → Option Verdict
 derived_fault_of t w k None end = compact_fault_of (index_at t k) (computed_before t (k + 1)) w end
 derived_fault_of t w k (Some stated) end = fault_of end

@@ -14,6 +14,7 @@ pub record SlotsAfter (groups : ℕ) (tags numbers : List ℕ) (new_groups : ℕ
   pub slots : AreSlots new_groups new_tags new_numbers (k + 1)
   pub kept : (c : Lits) (j : ℕ) → StandsInSlot groups tags numbers c j → StandsInSlot new_groups new_tags new_numbers c j
 
+-- each clause up to the new one stands where it can be found, where slots and runs kept the earlier ones
 each-after : (f : List Lits) (groups : ℕ) (tags numbers : List ℕ) (new_groups : ℕ) (new_tags new_numbers : List ℕ) (runs new_runs : List (List ℕ)) (k : ℕ)
     → SlotsAfter groups tags numbers new_groups new_tags new_numbers k → ((j : ℕ) → AnyHas runs j → AnyHas new_runs j)
     → ((j : ℕ) → j < k → Stands f groups tags numbers runs j) → Stands f new_groups new_tags new_numbers new_runs k

@@ -37,7 +37,9 @@ impl Model for ClauseIndex {
       literal_room = x.clauses.item_room;
     } };
 
-    ghost invariant = { λ x. IsIndexed x.clauses x.keys.items (vec_capacity x.keys) x.slots.groups x.slots.tags.items x.slots.numbers.items x.runs.runs (vec_capacity x.runs.run) (vec_capacity x.runs.merged) x.room };
+    ghost invariant = { λ x. IsIndexed x.clauses x.keys.items (vec_capacity x.keys)
+        x.slots.groups x.slots.tags.items x.slots.numbers.items
+        x.runs.runs (vec_capacity x.runs.run) (vec_capacity x.runs.merged) x.room };
 }
 
 impl ClauseIndex {
@@ -158,8 +160,12 @@ fn add(
     requires keys { AreKeys clauses.now.lists keys.now }
     requires within { k < length clauses.now.lists }
     requires room { k < room }
-    requires index { IsIndex clauses.now.lists slots.old.groups slots.old.tags.items slots.old.numbers.items runs.old.runs (vec_capacity runs.old.run) (vec_capacity runs.old.merged) room k }
-    ensures index { IsIndex clauses.now.lists slots.new.groups slots.new.tags.items slots.new.numbers.items runs.new.runs (vec_capacity runs.new.run) (vec_capacity runs.new.merged) room (k + 1) }
+    requires index { IsIndex clauses.now.lists
+        slots.old.groups slots.old.tags.items slots.old.numbers.items
+        runs.old.runs (vec_capacity runs.old.run) (vec_capacity runs.old.merged) room k }
+    ensures index { IsIndex clauses.now.lists
+        slots.new.groups slots.new.tags.items slots.new.numbers.items
+        runs.new.runs (vec_capacity runs.new.run) (vec_capacity runs.new.merged) room (k + 1) }
 {
     if !slots.add(clauses.get(k), k) {
         runs.add(clauses, keys, k);

@@ -42,9 +42,13 @@ impl Slots {
 
     /// Which clause in a slot has these literals.
     pub fn find(&self, clauses: &FlatLists<Lit>, lits: &[Lit]) -> Option<u32>
-        requires { AreSlots self.now.groups self.now.tags.items self.now.numbers.items (length clauses.now.lists) }
-        ensures some { IfSome result (λ k. (k < length clauses.now.lists) × (clause_at clauses.now.lists k ≡ lits.now)) }
-        ensures none { IfNone result ((k : ℕ) → StandsInSlot self.now.groups self.now.tags.items self.now.numbers.items lits.now k → clause_at clauses.now.lists k ≢ lits.now) }
+        requires { AreSlots self.now.groups self.now.tags.items self.now.numbers.items
+            (length clauses.now.lists) }
+        ensures some { IfSome result
+            (λ k. (k < length clauses.now.lists) × (clause_at clauses.now.lists k ≡ lits.now)) }
+        ensures none { IfNone result ((k : ℕ)
+            → StandsInSlot self.now.groups self.now.tags.items self.now.numbers.items lits.now k
+            → clause_at clauses.now.lists k ≢ lits.now) }
     {
         let hash = hash(lits);
         let first = first(hash, self.groups);
@@ -65,9 +69,13 @@ impl Slots {
     pub fn add(&mut self, lits: &[Lit], k: u32) -> bool
         requires slots { AreSlots self.old.groups self.old.tags.items self.old.numbers.items k }
         requires few { k + 1 < 4_294_967_296 }
-        ensures slots { AreSlots self.new.groups self.new.tags.items self.new.numbers.items (k + 1) }
-        ensures kept { (c : Lits) (j : ℕ) → StandsInSlot self.old.groups self.old.tags.items self.old.numbers.items c j → StandsInSlot self.new.groups self.new.tags.items self.new.numbers.items c j }
-        ensures added { result ≡ true → StandsInSlot self.new.groups self.new.tags.items self.new.numbers.items lits.now k }
+        ensures slots { AreSlots self.new.groups self.new.tags.items self.new.numbers.items
+            (k + 1) }
+        ensures kept { (c : Lits) (j : ℕ)
+            → StandsInSlot self.old.groups self.old.tags.items self.old.numbers.items c j
+            → StandsInSlot self.new.groups self.new.tags.items self.new.numbers.items c j }
+        ensures added { result ≡ true
+            → StandsInSlot self.new.groups self.new.tags.items self.new.numbers.items lits.now k }
     {
         let hash = hash(lits);
         let first = first(hash, self.groups);
@@ -90,7 +98,8 @@ pub fn key(lits: &[Lit]) -> u32
 // An empty slot of the group that begins with this slot.
 fn empty(numbers: &[u32], first: usize) -> Option<usize>
     requires { first + GROUP ≤ length numbers.now }
-    ensures { IfSome result (λ s. (first ≤ s) × (s < first + GROUP) × (get_or numbers.now s 0 ≡ 0)) }
+    ensures { IfSome result (λ s. (first ≤ s) × (s < first + GROUP)
+        × (get_or numbers.now s 0 ≡ 0)) }
 {
     for slot in first..first + GROUP {
         if numbers[slot] == 0 {

@@ -71,6 +71,7 @@ how_many_clash (m ∷ ms) c =
 step_exists : (r c : Lits) → OneClashes r c → (s : Lits) × Step r c s
 step_exists r c one = (resolvent_on one.pivot r c, step_on r c one.pivot one.clashes one.only)
 
+-- a chain that was followed to its end comes to what is stated, or to something else
 stop_exists : (index : ℕ) (stated : Option Lits) (r : Lits) → (end : Result (Unit {0}) ChainError) × EndsAt index stated r end
 stop_exists index None r = (Ok tt, refl)
 stop_exists index (Some stated) r =

@@ -3,12 +3,15 @@ use Rattle.std.proofs.Common.{◌≡◌, ◌<◌, inl, inr, List, [], ◌∷◌,
 use Rattle.clause_defs.specs.Literals.{Literal, code}
 use Rattle.clause_defs.specs.Clauses.{Lits, Has, SameSet, IsOrdered}
 
+-- a clause is the same set as itself
 pub same_refl : (c : Lits) → SameSet c c
 same_refl c l = (λ h. h, λ h. h)
 
+-- a clause is the same set as one that is the same set as it
 pub same_sym : (c d : Lits) → SameSet c d → SameSet d c
 same_sym c d e l = ((e l).1, (e l).0)
 
+-- clauses that are the same set as a third are the same set
 pub same_trans : (c d e : Lits) → SameSet c d → SameSet d e → SameSet c e
 same_trans c d e h k l = (λ x. (k l).0 ((h l).0 x), λ x. (h l).1 ((k l).1 x))
 

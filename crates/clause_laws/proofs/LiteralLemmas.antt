@@ -11,6 +11,7 @@ sign_cases true false = inr (λ e. cc)
 sign_cases false true = inr (λ e. cc)
 sign_cases false false = inl refl
 
+-- literals of the same variable and the same sign are the same
 literal_by_parts : (l m : Literal) → l.variable ≡ m.variable → l.positive ≡ m.positive → l ≡ m
 literal_by_parts l m e s = λ i. record { variable = e i; positive = s i }
 
@@ -22,13 +23,16 @@ literal_cases l m =
       | inr e ↦ inr (λ h. e (ap (λ (x : Literal). x.variable) h))
     ]
 
+-- the other of the other sign is the sign
 not-not : (b : Bool) → not (not b) ≡ b
 not-not true = refl
 not-not false = refl
 
+-- the negation of a literal's negation is the literal
 pub negation-negation : (l : Literal) → negation (negation l) ≡ l
 negation-negation l = literal_by_parts (negation (negation l)) l refl (not-not l.positive)
 
+-- no assignment gives a variable both bits
 opposite_values : (a : List ℕ) (v : ℕ) (b : Bool) → slice_get a (v - 1) ≡ Some (if b then 1 else 0)
     → slice_get a (v - 1) ≡ Some (if not b then 1 else 0) → ⊥
 opposite_values a v true h k = cc

@@ -32,6 +32,7 @@ chain_keeps a r [] s same h all = satisfies_same a r s same h
 chain_keeps a r (c ∷ cs) s chain h all =
     chain_keeps a chain.0 cs s chain.2 (step_keeps a r c chain.0 chain.1 h (all c (inl refl))) (λ d i. all d (inr i))
 
+-- an assignment that satisfies the clauses satisfies what follows from them
 resolves_keeps : (a : List ℕ) (cs : List Lits) (s : Lits) → Resolves cs s
     → ((c : Lits) → Has cs c → Satisfies a c) → Satisfies a s
 resolves_keeps a [] s h all = absurd h
@@ -44,11 +45,13 @@ abbrev ComesTo : Option Lits → Lits → Type 0
 ComesTo None s = Unit {0}
 ComesTo (Some stated) s = SameSet s stated
 
+-- a chain that ends without a fault came to what is stated
 at_end : (index : ℕ) (stated : Option Lits) (r : Lits) → EndsAt index stated r (Ok tt) → ComesTo stated r
 at_end index None r h = tt
 at_end index (Some stated) r (inl h) = h.0
 at_end index (Some stated) r (inr h) = absurd (let e = h.1 in cc)
 
+-- a chain without a fault is one of the rule, and comes to what is stated
 chain_from_end : (index : ℕ) (stated : Option Lits) (step : ℕ) (r : Lits) (cs : List Lits)
     → ChainEnds index stated step r cs (Ok tt) → (s : Lits) × Chain r cs s × ComesTo stated s
 chain_from_end index stated step r [] h = (r, same_refl r, at_end index stated r h)
@@ -57,15 +60,18 @@ chain_from_end index stated step r (c ∷ cs) (inr (inl h)) = absurd (let e = h.
 chain_from_end index stated step r (c ∷ cs) (inr (inr h)) =
     let rest = chain_from_end index stated (step + 1) h.0 cs h.2 in (rest.0, (h.0, h.1, rest.1), rest.2)
 
+-- where a chain has no fault, what is stated follows from its clauses
 resolves_from_end : (index : ℕ) (stated : Option Lits) (cs : List Lits)
     → ChainFault index stated cs (Ok tt) → (s : Lits) × Resolves cs s × ComesTo stated s
 resolves_from_end index stated [] h = absurd h
 resolves_from_end index stated (r ∷ cs) h = chain_from_end index stated 1 r cs h
 
+-- a clause with stated literals has no fault where its chain has none
 no_stated_fault : (end : Result (Unit {0}) ChainError) → None ≡ fault_of end → end ≡ Ok tt
 no_stated_fault (Ok tt) e = refl
 no_stated_fault (Err x) e = absurd cc
 
+-- a clause with the sign has no fault only where its chain has none
 no_compact_fault : (index literals w : ℕ) (end : Result (Unit {0}) ChainError) → None ≡ compact_fault_of index literals w end → end ≡ Ok tt
 no_compact_fault index literals w (Ok tt) e = refl
 no_compact_fault index literals w (Err x) e = absurd cc
@@ -85,6 +91,7 @@ derived_end t w k (Some ds) cs e h =
     subst (λ bs. ChainFault (index_at t k) (stated_at t k) bs (Ok tt)) same
     (subst (ChainFault (index_at t k) (stated_at t k) ds) (no_fault t w k (stated_at t k) h.0 h.2) h.1)
 
+-- a derived clause without a fault has a chain without a fault
 pub derived_with : (f : List Lits) (t : List Entry) (w k : ℕ) (ps : List ℕ) (cs : List Lits) → ps ≢ [] → antecedent_lits t k ≡ Some cs
     → FaultWith f t w k ps None → ChainFault (index_at t k) (stated_at t k) cs (Ok tt)
 derived_with f t w k [] cs ne e h = absurd (ne refl)
@@ -127,6 +134,7 @@ module _ (f : List Lits) (t : List Entry) (w : ℕ) (earlier : AntecedentsAreEar
   -- a property that steps keep and that originals have, all clauses of a faultless trace have
   module _ (P : Lits → Type 0) (chain : (cs : List Lits) (s : Lits) → Resolves cs s → ((c : Lits) → Has cs c → P c) → P s)
       (original : (k : ℕ) → HasClause f (lits_at t k) → antecedents_at t k ≡ [] → Keeps P k) where
+    -- what holds of the clauses that are given holds of a clause without a fault, original or derived
     kept_with : (k : ℕ) (ps : List ℕ) → ps ≡ antecedents_at t k → ClauseFault f t w k None
         → ((p : ℕ) → Has (antecedents_at t k) p → Keeps P p) → Keeps P k
     kept_with k [] e right before = original k (original_with f t w k (antecedents_at t k) right (sym e)) (sym e)
@@ -135,12 +143,14 @@ module _ (f : List Lits) (t : List Entry) (w : ℕ) (earlier : AntecedentsAreEar
         let own = resolves_with f t w k given.0 earlier right (λ none. let both : p ∷ ps ≡ [] = e ∙ none in cc) given.1 in
         (own.0, own.1, chain given.0 own.0 own.2 given.2)
 
+    -- what holds of originals and of what follows holds of all clauses before a bound
     all_keep : (n : ℕ) → AllRightBefore f t w n → (bound k : ℕ) → k < bound → k < n → Keeps P k
     all_keep n right zero k below within = absurd (omega arith)
     all_keep n right (suc bound) k below within =
         kept_with k (antecedents_at t k) refl (right k within)
         (λ p i. let before : p < k = earlier k p i in all_keep n right bound p (omega arith) (omega arith))
 
+    -- what holds of originals and of what follows holds of each clause of a trace without faults
     pub keep : (n k : ℕ) → AllRightBefore f t w n → k < n → Keeps P k
     keep n k right within = all_keep n right n k within within
 
@@ -149,10 +159,12 @@ original_true : (f : List Lits) (t : List Entry) (a : List ℕ) → ((c : Lits) 
     → (k : ℕ) → HasClause f (lits_at t k) → antecedents_at t k ≡ [] → (c : Lits) × (LitsOf t k ≡ Some c) × Satisfies a c
 original_true f t a all k h none = stated_true (stated_at t k) refl (satisfies_same a h.0 (lits_at t k) h.2 (all h.0 h.1))
   where
+    -- a clause whose stated literals are satisfied is satisfied
     stated_true : (stated : Option Lits) → stated_at t k ≡ stated → Satisfies a (lits_at t k) → (c : Lits) × (LitsOf t k ≡ Some c) × Satisfies a c
     stated_true None e s = absurd (let empty : Satisfies a [] = subst (λ o. Satisfies a (literals_in o)) e s in empty.1)
     stated_true (Some c) e s = (c, lits_stated t k c e, subst (λ o. Satisfies a (literals_in o)) e s)
 
+-- a list is unsatisfiable where a trace of it has no fault and ends with the empty clause
 pub unsat : (variables : ℕ) (f : List Lits) (t : List Entry) (w : ℕ) → AntecedentsAreEarlier t
     → AllRightBefore f t w (length t) → EndsEmpty t → Unsat variables f
 unsat variables f t w earlier right ends a assignment all =

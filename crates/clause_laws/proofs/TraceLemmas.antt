@@ -46,10 +46,12 @@ indices-before t e (p ∷ ps) h =
     let rest : map (index_at t) ps ≡ map (index_at (t ++ e ∷ [])) ps = indices-before t e ps (λ q i. h q (inr i)) in
     ap (λ (n : ℕ). n ∷ map (index_at t) ps) first ∙ ap (λ (ns : List ℕ). index_at (t ++ e ∷ []) p ∷ ns) rest
 
+-- the antecedents of a clause are clauses of the trace
 own_within : (t : List Entry) → IsTrace t → (k p : ℕ) → Has (antecedents_at t k) p → (k < length t) ⊎ (length t ≤ k) → p < length t
 own_within t h k p i (inl lt) = let below : p < k = h.earlier k p i in omega arith
 own_within t h k p i (inr past) = absurd (subst (λ o. Has (antecedents_of o) p) (slice_get_past t k past) i)
 
+-- a place is before the end or past it
 below_or_past : (k n : ℕ) → (k < n) ⊎ (n ≤ k)
 below_or_past k n = grind arith
 
@@ -68,6 +70,7 @@ pub record CanFollow (t : List Entry) (e : Entry) : Type 0 where
   pub derived : e.stated ≡ None → e.antecedents ≢ []
   pub earlier : AreWithin t e.antecedents
 
+-- with a clause that can follow, antecedents still stand earlier
 earlier_after : (t : List Entry) (e : Entry) → IsTrace t → CanFollow t e → (k p : ℕ) → Has (antecedents_at (t ++ e ∷ []) k) p → p < k
 earlier_after t e h new k p i =
     elim (cases_order k (length t)) [
@@ -96,6 +99,7 @@ index_after t e k lt =
       | inr (inr past) ↦ absurd (omega (arith, length-append t (e ∷ [])))
     ]
 
+-- with a clause that can follow, indices are still distinct
 distinct_after : (t : List Entry) (e : Entry) → IsTrace t → CanFollow t e → (j k : ℕ) → j < k → k < length (t ++ e ∷ [])
     → index_at (t ++ e ∷ []) j ≢ index_at (t ++ e ∷ []) k
 distinct_after t e h new j k lt within same =

@@ -5,21 +5,25 @@ use Rattle.clause_defs.specs.Clauses.{Lits, Has}
 use Rattle.clause_defs.specs.Traces.{Entry, IsCompactAt, stated_at, antecedents_at, AntecedentsAreEarlier}
 use Rattle.clause_defs.specs.TraceClauses.{given_with, all_given, given_by, stated_or, known_at, clause_behind, clauses_before, LitsOf, antecedent_lits}
 
+-- a list with one more at its end is longer by one
 length-snoc : {X : Type 0} (xs : List X) (x : X) → length (xs ++ x ∷ []) ≡ length xs + 1
 length-snoc [] x = omega arith
 length-snoc (y ∷ ys) x = let rest = length-snoc ys x in omega arith
 
+-- before place n there are n clauses
 length-clauses_before : (t : List Entry) (n : ℕ) → length (clauses_before t n) ≡ n
 length-clauses_before t zero = refl
 length-clauses_before t (suc k) =
     let more = length-snoc (clauses_before t k) (clause_behind (clauses_before t k) t k) in
     let rest = length-clauses_before t k in omega arith
 
+-- a clause that is known stays as it is with more known behind it
 known_at-front : (xs ys : List (Option Lits)) (p : ℕ) → p < length xs → known_at (xs ++ ys) p ≡ known_at xs p
 known_at-front [] ys p lt = absurd (omega arith)
 known_at-front (x ∷ xs) ys zero lt = refl
 known_at-front (x ∷ xs) ys (suc p) lt = known_at-front xs ys p (omega arith)
 
+-- the clause that was put behind the known ones is the next
 known_at-last : (xs : List (Option Lits)) (x : Option Lits) (p : ℕ) → p ≡ length xs → known_at (xs ++ x ∷ []) p ≡ x
 known_at-last [] x zero e = refl
 known_at-last [] x (suc p) e = absurd (omega arith)
@@ -51,9 +55,11 @@ lits_unfold t k earlier =
     ap (λ os. stated_or (stated_at t k) (given_by (all_given os)))
     (map_same (known_at (clauses_before t k)) (LitsOf t) (antecedents_at t k) (λ p i. known_before t k p (earlier k p i)))
 
+-- a clause whose literals are stated has them
 pub lits_stated : (t : List Entry) (k : ℕ) (c : Lits) → stated_at t k ≡ Some c → LitsOf t k ≡ Some c
 lits_stated t k c e = ap (λ o. stated_or o (given_by (all_given (map (known_at (clauses_before t k)) (antecedents_at t k))))) e
 
+-- a clause with the sign is what its antecedents give
 pub lits_given : (t : List Entry) (k : ℕ) → AntecedentsAreEarlier t → IsCompactAt t k → LitsOf t k ≡ given_by (antecedent_lits t k)
 lits_given t k earlier e = lits_unfold t k earlier ∙ ap (λ o. stated_or o (given_by (antecedent_lits t k))) e
 

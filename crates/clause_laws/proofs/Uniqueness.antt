@@ -12,6 +12,7 @@ use Rattle.clause_defs.specs.declared.verdict.Verdict.{Verdict}
 use Rattle.clause_defs.specs.declared.verdict.Verdict.TheVariants.{Refutes, NotOriginal, Chain, TooWide, NotEmptyEnd}
 use Rattle.clause_laws.proofs.ClauseLemmas.{same_refl}
 
+-- which literals clash is told by the running clause as a set
 clashes_same : (r q c : Lits) (l : Literal) → SameSet r q → Clashes r c l → Clashes q c l
 clashes_same r q c l same h = ((same l).0 h.0, h.1)
 
@@ -30,17 +31,21 @@ step_same r q c s d same step other =
       λ h. (step.resolvent l).1 (resolvent_within q r c other.pivot step.pivot l (λ x. ((same x).1, (same x).0)) (sym e) ((other.resolvent l).0 h)),
     )
 
+-- a set against which no literal clashes is none against which several do
 none_against_several : (r q c : Lits) → SameSet r q → NoClash r c → ManyClash q c → ⊥
 none_against_several r q c same none several = none several.0 (clashes_same q r c several.0 (λ x. ((same x).1, (same x).0)) several.3)
 
+-- a set against which no literal clashes makes no step
 none_against_step : (r q c s : Lits) → SameSet r q → NoClash r c → Step q c s → ⊥
 none_against_step r q c s same none step = none step.pivot (clashes_same q r c step.pivot (λ x. ((same x).1, (same x).0)) step.clashes)
 
+-- a set against which several literals clash makes no step
 several_against_step : (r q c s : Lits) → SameSet r q → ManyClash r c → Step q c s → ⊥
 several_against_step r q c s same several step =
     several.2 (step.only several.0 (clashes_same r q c several.0 same several.3)
     ∙ sym (step.only several.1 (clashes_same r q c several.1 same several.4)))
 
+-- a clause is the same set as one that is the same set as it
 back : (r q : Lits) → SameSet r q → SameSet q r
 back r q same x = ((same x).1, (same x).0)
 
@@ -70,6 +75,7 @@ end_same index stated step r q (c ∷ cs) e d same (inr (inr h)) (inr (inl k)) =
 end_same index stated step r q (c ∷ cs) e d same (inr (inr h)) (inr (inr k)) =
     end_same index stated (step + 1) h.0 k.0 cs e d (step_same r q c h.0 k.0 same h.1 k.1) h.2 k.2
 
+-- the chain of a clause ends in one way
 pub chain_end_unique : (index : ℕ) (stated : Option Lits) (cs : List Lits) (e d : Result (Unit {0}) ChainError)
     → ChainFault index stated cs e → ChainFault index stated cs d → e ≡ d
 chain_end_unique index stated [] e d h k = absurd h
@@ -96,6 +102,7 @@ module _ (f : List Lits) (t : List Entry) (w : ℕ) where
   pub right_against_fault : (k : ℕ) (v : Verdict) → ClauseFault f t w k None → ClauseFault f t w k (Some v) → ⊥
   right_against_fault k v h i = let e : None ≡ Some v = fault_unique f t w k (antecedents_at t k) None (Some v) h i in cc
 
+  -- the first fault of a trace is one
   first_unique : (v u : Verdict) → FirstFault f t w v → FirstFault f t w u → v ≡ u
   first_unique v u h i =
       elim (cases_order h.0 i.0) [
@@ -110,6 +117,7 @@ module _ (f : List Lits) (t : List Entry) (w : ℕ) where
       (AllRightBefore f t w (length t) × EndsEmpty t × (v ≡ Refutes))
       ⊎ ((AllRightBefore f t w (length t) × (EndsEmpty t → ⊥) × (v ≡ NotEmptyEnd)) ⊎ FirstFault f t w v)
 
+  -- a verdict is a first fault, or that no clause has one
   kinds : (v : Verdict) → VerdictOf f t w v → Kinds v
   kinds Refutes h = inl (h.0, h.1, refl)
   kinds NotEmptyEnd h = inr (inl (h.0, h.1, refl))
@@ -117,9 +125,11 @@ module _ (f : List Lits) (t : List Entry) (w : ℕ) where
   kinds (Chain e) h = inr (inr h)
   kinds (TooWide i) h = inr (inr h)
 
+  -- a trace has no first fault where no clause has one
   first_against_all : (v : Verdict) → AllRightBefore f t w (length t) → FirstFault f t w v → ⊥
   first_against_all v right first = right_against_fault first.0 v (right first.0 first.1) first.3
 
+  -- two verdicts of a trace are of the same kind, and so the same
   kinds_unique : (v u : Verdict) → Kinds v → Kinds u → v ≡ u
   kinds_unique v u (inl h) (inl i) = h.2 ∙ sym i.2
   kinds_unique v u (inl h) (inr (inl i)) = absurd (i.1 h.1)
@@ -131,5 +141,6 @@ module _ (f : List Lits) (t : List Entry) (w : ℕ) where
   kinds_unique v u (inr (inr h)) (inr (inl i)) = absurd (first_against_all v i.0 h)
   kinds_unique v u (inr (inr h)) (inr (inr i)) = first_unique v u h i
 
+  -- a trace has one verdict
   pub verdict_unique : (v u : Verdict) → VerdictOf f t w v → VerdictOf f t w u → v ≡ u
   verdict_unique v u h i = kinds_unique v u (kinds v h) (kinds u i)

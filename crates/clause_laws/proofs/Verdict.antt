@@ -31,6 +31,7 @@ fault_with_exists f t w k (p ∷ ps) e =
     let there = derived_exists t w k (LitsOf t p) (all_given (map (LitsOf t) ps)) in
     (there.0, subst (λ qs. DerivedFault t w k (all_given (map (LitsOf t) qs)) there.0) e there.1)
 
+-- each clause has a fault, or none
 pub fault_exists : (f : List Lits) (t : List Entry) (w k : ℕ) → (found : Option Verdict) × ClauseFault f t w k found
 fault_exists f t w k = fault_with_exists f t w k (antecedents_at t k) refl
 
@@ -38,27 +39,33 @@ fault_exists f t w k = fault_with_exists f t w k (antecedents_at t k) refl
 abbrev IsClauseFault : Verdict → Type 0
 IsClauseFault v = ((i : ℕ) × (v ≡ NotOriginal i)) ⊎ (((e : ChainError) × (v ≡ Chain e)) ⊎ ((i : ℕ) × (v ≡ TooWide i)))
 
+-- a fault of a clause with stated literals is one of a chain
 stated_fault : (v : Verdict) (end : Result (Unit {0}) ChainError) → Some v ≡ fault_of end → IsClauseFault v
 stated_fault v (Ok u) e = absurd cc
 stated_fault v (Err x) e = inr (inl (x, cc))
 
+-- too many computed literals are a fault of a clause
 wide_fault : (b : Bool) (index : ℕ) (v : Verdict) → Some v ≡ (if b then Some (TooWide index) else None) → IsClauseFault v
 wide_fault true index v e = inr (inr (index, cc))
 wide_fault false index v e = absurd cc
 
+-- a fault of a clause with the sign is one of a clause
 compact_fault : (index literals w : ℕ) (v : Verdict) (end : Result (Unit {0}) ChainError) → Some v ≡ compact_fault_of index literals w end → IsClauseFault v
 compact_fault index literals w v (Ok u) e = wide_fault (nat_lt w literals) index v e
 compact_fault index literals w v (Err x) e = inr (inl (x, cc))
 
+-- a fault of a derived clause is one of a clause
 derived_fault : (t : List Entry) (w k : ℕ) (stated : Option Lits) (v : Verdict) (end : Result (Unit {0}) ChainError)
     → Some v ≡ derived_fault_of t w k stated end → IsClauseFault v
 derived_fault t w k None v end e = compact_fault (index_at t k) (computed_before t (k + 1)) w v end e
 derived_fault t w k (Some c) v end e = stated_fault v end e
 
+-- a fault of a derived clause whose antecedents are given is one of a clause
 given_fault : (t : List Entry) (w k : ℕ) (o : Option (List Lits)) (v : Verdict) → DerivedFault t w k o (Some v) → IsClauseFault v
 given_fault t w k None v h = absurd cc
 given_fault t w k (Some cs) v h = derived_fault t w k (stated_at t k) v h.0 h.2
 
+-- the fault of a clause is one of those that a clause can have
 clause_fault : (f : List Lits) (t : List Entry) (w k : ℕ) (ps : List ℕ) (v : Verdict) → FaultWith f t w k ps (Some v) → IsClauseFault v
 clause_fault f t w k [] v (inl h) = absurd (let e = h.1 in cc)
 clause_fault f t w k [] v (inr h) = inl (index_at t k, let e = h.1 in cc)
@@ -96,6 +103,7 @@ module _ (f : List Lits) (t : List Entry) (w : ℕ) where
   fault_verdict v first (inr (inl k)) = subst (VerdictOf f t w) (sym k.1) (subst (FirstFault f t w) k.1 first)
   fault_verdict v first (inr (inr k)) = subst (VerdictOf f t w) (sym k.1) (subst (FirstFault f t w) k.1 first)
 
+  -- a first fault is the verdict
   pub verdict_of_first : (v : Verdict) → FirstFault f t w v → VerdictOf f t w v
   verdict_of_first v first = fault_verdict v first (clause_fault f t w first.0 (antecedents_at t first.0) v first.3)
 
@@ -105,6 +113,7 @@ module _ (f : List Lits) (t : List Entry) (w : ℕ) where
   empty_cases (Some []) = inl refl
   empty_cases (Some (l ∷ ls)) = inr (λ e. cc)
 
+  -- a trace ends with the empty clause, or it doesn't
   ends_empty_cases : EndsEmpty t ⊎ (EndsEmpty t → ⊥)
   ends_empty_cases = elim (cases_order 0 (length t)) [
     | inl e ↦ inr (λ h. let some = h.0 in omega arith)

@@ -33,14 +33,16 @@ pub fn computed_chain_is_the_rules()
 
 /// A clause of a trace is the stated one, or what the clauses of its antecedents give.
 pub fn clauses_of_a_trace_are_determined()
-    ensures stated { (t : List Entry) (k : ℕ) (c : Lits) → stated_at t k ≡ Some c → LitsOf t k ≡ Some c }
+    ensures stated { (t : List Entry) (k : ℕ) (c : Lits)
+        → stated_at t k ≡ Some c → LitsOf t k ≡ Some c }
     ensures given { (t : List Entry) (k : ℕ) → AntecedentsAreEarlier t → IsCompactAt t k
         → LitsOf t k ≡ given_by (antecedent_lits t k) }
 {}
 
 /// The chain of a clause has one end, which the stated clause determines as a set.
 pub fn chain_end_is_unique()
-    ensures { (index : ℕ) (stated : Option Lits) (cs : List Lits) (end other : Result (Unit {0}) ChainError)
+    ensures { (index : ℕ) (stated : Option Lits) (cs : List Lits)
+        (end other : Result (Unit {0}) ChainError)
         → ChainFault index stated cs end → ChainFault index stated cs other → end ≡ other }
 {}
 
@@ -86,7 +88,8 @@ pub fn verdict_is_unique()
 pub fn compacted_trace_refutes()
     ensures trace { (t : List Entry) → IsTrace t → IsTrace (compacted t) }
     ensures refutes { (f : List Lits) (t : List Entry) (v w : ℕ) → IsTrace t → AllStated t
-        → VerdictOf f t v Verdict.Refutes → derived_literals t ≤ w → VerdictOf f (compacted t) w Verdict.Refutes }
+        → VerdictOf f t v Verdict.Refutes → derived_literals t ≤ w
+        → VerdictOf f (compacted t) w Verdict.Refutes }
     ensures same { (f : List Lits) (t : List Entry) (v k : ℕ) → IsTrace t → AllStated t
         → VerdictOf f t v Verdict.Refutes → k < length t → LitsOf (compacted t) k ≡ LitsOf t k }
 {}

@@ -27,19 +27,24 @@ RightWord v w = (w ≡ zero_word) ⊎ ((l : Literal) × SpellsLiteral w l × (l.
 abbrev pub Outside : ℕ → List ℕ → Type 0
 Outside v w = (l : Literal) × SpellsLiteral w l × (v < l.variable)
 
+-- a literal over the variables is taken as one of the clause
 within_ok : (v : ℕ) (t : Token) (l : Literal) → SpellsLiteral t.bytes l → l.variable ≤ v → literal_within v t ≡ Ok l
 within_ok v t l h le = let found = word_literal t.bytes l h in let test : nat_le l.variable v ≡ true = le-leb l.variable v le in rw (found, test) refl
 
+-- a literal of a greater variable is out of range
 within_out : (v : ℕ) (t : Token) (l : Literal) → SpellsLiteral t.bytes l → v < l.variable → literal_within v t ≡ Err (VarRange t.at)
 within_out v t l h lt = let found = word_literal t.bytes l h in let test : nat_le l.variable v ≡ false = lt-leb l.variable v lt in rw (found, test) refl
 
+-- a word that is no literal can't stand
 within_bad : (v : ℕ) (t : Token) → literal_in t.bytes ≡ None → literal_within v t ≡ Err (Syntax t.at)
 within_bad v t e = rw e refl
 
+-- a token that isn't 0 is taken as a literal of the clause, or is the fault
 step_if : (v end : ℕ) (t : Token) (ts : List Token) (fs : List Lits) (ls : Lits) → is_zero t.bytes ≡ false
     → clauses_from v end (t ∷ ts) fs ls ≡ (literal_within v t >>= λ l. clauses_from v end ts fs (ls ++ l ∷ []))
 step_if v end t ts fs ls e = rw e refl
 
+-- what is read behind a literal of the clause, or the literal's fault
 then_lit : (v end : ℕ) (ts : List Token) (fs : List Lits) (ls : Lits) → Result Literal CnfError → Result (List Lits) CnfError
 then_lit v end ts fs ls r = r >>= λ l. clauses_from v end ts fs (ls ++ l ∷ [])
 
@@ -62,10 +67,12 @@ unfolding then_lit
 step_out v end t ts fs ls l h lt =
     step_if v end t ts fs ls (literal_nonzero t.bytes l h) ∙ ap (then_lit v end ts fs ls) (within_out v t l h lt)
 
+-- a word that is neither a literal nor 0 is read as no literal
 no_literal : (w : List ℕ) (o : Option Literal) → literal_in w ≡ o → (IsClauseWord w → ⊥) → literal_in w ≡ None
 no_literal w None e h = e
 no_literal w (Some l) e h = absurd (h (inr (l, literal_in-word w l e)))
 
+-- a word that is neither a literal nor 0 isn't 0
 no_zero : (w : List ℕ) → (IsClauseWord w → ⊥) → is_zero w ≡ false
 no_zero w h = elim (cases_Bool (is_zero w)) [ inl z ↦ absurd (h (inl (is_zero-word w z))) | inr z ↦ z ]
 
@@ -81,6 +88,7 @@ step_bad v end t ts fs ls h =
 kind_literal : (v : ℕ) (w : List ℕ) (l : Literal) → SpellsLiteral w l → RightWord v w ⊎ (Outside v w ⊎ (IsClauseWord w → ⊥))
 kind_literal v w l h = elim (cases_lt v l.variable) [ inl lt ↦ inr (inl (l, h, lt)) | inr le ↦ inl (inr (l, h, le)) ]
 
+-- a word that isn't 0 is a literal over the variables, a literal of a greater one, or can't stand
 kind_other : (v : ℕ) (w : List ℕ) (o : Option Literal) → is_zero w ≡ false → literal_in w ≡ o → RightWord v w ⊎ (Outside v w ⊎ (IsClauseWord w → ⊥))
 kind_other v w (Some l) z e = kind_literal v w l (literal_in-word w l e)
 kind_other v w None z e = inr (inr (λ h. elim h [
@@ -122,6 +130,7 @@ abbrev pub is_empty : Lits → Bool
 is_empty [] = true
 is_empty (l ∷ ls) = false
 
+-- a clause with a literal isn't empty
 is_empty-snoc : (ls : Lits) (l : Literal) → is_empty (ls ++ l ∷ []) ≡ false
 is_empty-snoc [] l = refl
 is_empty-snoc (m ∷ ms) l = refl
@@ -134,15 +143,19 @@ pub record Ran (v end : ℕ) (ts : List Token) (fs : List Lits) (ls : Lits) : Ty
   pub count : length read ≡ length fs + zeros (words_of ts)
   pub ends : is_empty left ≡ ends_in_zero (is_empty ls) (words_of ts)
 
+-- a 0 counts one
 zeros-zero : (w : List ℕ) (ws : List (List ℕ)) → is_zero w ≡ true → zeros (w ∷ ws) ≡ 1 + zeros ws
 zeros-zero w ws e = rw e refl
 
+-- another word counts none
 zeros-other : (w : List ℕ) (ws : List (List ℕ)) → is_zero w ≡ false → zeros (w ∷ ws) ≡ zeros ws
 zeros-other w ws e = rw e refl
 
+-- whether words end in 0 is told by the last one
 ends-step : (z b : Bool) (w : List ℕ) (ws : List (List ℕ)) → is_zero w ≡ b → ends_in_zero z (w ∷ ws) ≡ ends_in_zero b ws
 ends-step z b w ws e = ap (λ (x : Bool). ends_in_zero x ws) e
 
+-- tokens that run through behind a 0 run through from the 0 on
 run_zero : (v end : ℕ) (t : Token) (ts : List Token) (fs : List Lits) (ls : Lits) → t.bytes ≡ zero_word
     → Ran v end ts (fs ++ clause_of ls ∷ []) [] → Ran v end (t ∷ ts) fs ls
 run_zero v end t ts fs ls e r = record {
@@ -156,6 +169,7 @@ run_zero v end t ts fs ls e r = record {
   ends = r.ends ∙ sym (ends-step (is_empty ls) true t.bytes (words_of ts) (ap is_zero e));
 }
 
+-- tokens that run through behind a literal run through from the literal on
 run_literal : (v end : ℕ) (t : Token) (ts : List Token) (fs : List Lits) (ls : Lits) (l : Literal) → SpellsLiteral t.bytes l → l.variable ≤ v
     → Ran v end ts fs (ls ++ l ∷ []) → Ran v end (t ∷ ts) fs ls
 run_literal v end t ts fs ls l h le r =
@@ -193,6 +207,7 @@ pub record BodyFault (v end : ℕ) (ts : List Token) (e : CnfError) : Type 0 whe
 abbrev pub Judged : ℕ → ℕ → List Token → List Lits → Lits → Type 0
 Judged v end ts fs ls = AllRight v ts ⊎ ((e : CnfError) × BodyFault v end ts e × (clauses_from v end ts fs ls ≡ Err e))
 
+-- a right token in front leaves the judgement of the later ones as it is
 judged_more : (v end : ℕ) (t : Token) (ts : List Token) (fs gs : List Lits) (ls ms : Lits) → RightWord v t.bytes
     → clauses_from v end (t ∷ ts) fs ls ≡ clauses_from v end ts gs ms → Judged v end ts gs ms → Judged v end (t ∷ ts) fs ls
 judged_more v end t ts fs gs ls ms right step (inl h) = inl (right, h)
@@ -238,14 +253,17 @@ fault_body v end ts e fs ls b =
 
 -- ---- the end
 
+-- at the end, with no clause open, the clauses are those that were read
 at_end : (v end : ℕ) (fs : List Lits) (ls : Lits) → is_empty ls ≡ true → clauses_from v end [] fs ls ≡ Ok fs
 at_end v end fs [] e = refl
 at_end v end fs (l ∷ ls) e = absurd (cc)
 
+-- at the end, with a clause open, the text ends inside it
 inside : (v end : ℕ) (fs : List Lits) (ls : Lits) → is_empty ls ≡ false → clauses_from v end [] fs ls ≡ Err (Syntax end)
 inside v end fs [] e = absurd (cc)
 inside v end fs (l ∷ ls) e = refl
 
+-- tokens that run through are read to their end
 run_out : (v end : ℕ) (ts : List Token) (fs : List Lits) (ls : Lits) (r : Ran v end ts fs ls) → clauses_from v end ts fs ls ≡ clauses_from v end [] r.read r.left
 run_out v end ts fs ls r = ap (λ (us : List Token). clauses_from v end us fs ls) (sym (append-nil ts)) ∙ r.goes_on []
 

@@ -19,9 +19,11 @@ use Rattle.cnf_text_laws.proofs.ClauseTokens.{kind, step_zero, step_literal, ste
 abbrev pub GoodLits : ℕ → Lits → Type 0
 GoodLits v ls = (l : Literal) → Has ls l → IsLiteral l × (l.variable ≤ v)
 
+-- literals over the variables with one more are over the variables
 good_snoc : (v : ℕ) (ls : Lits) (l : Literal) → GoodLits v ls → IsLiteral l → l.variable ≤ v → GoodLits v (ls ++ l ∷ [])
 good_snoc v ls l h i le m k = elim (Has-snoc ls l m k) [ inl j ↦ h m j | inr e ↦ subst (λ (x : Literal). IsLiteral x × (x.variable ≤ v)) e (i, le) ]
 
+-- literals over the variables spell their clause
 spelled_clause : (v : ℕ) (ls : Lits) → GoodLits v ls → IsSpelled v ls (clause_of ls)
 spelled_clause v ls h = record {
   clause = record { literals = λ l k. (h l ((SameSet-clause_of ls l).0 k)).0; ordered = IsOrdered-clause_of ls };
@@ -37,6 +39,7 @@ pub record Spells (v : ℕ) (ts : List Token) (fs : List Lits) (ls : Lits) (gs :
   pub each : AreSpelled v spelled clauses
   pub words : map literal_word ls ++ words_of ts ≡ flat_map clause_words spelled
 
+-- what is spelled behind a 0 is spelled from it on, with the clause that it closes
 spells_zero : (v : ℕ) (t : Token) (ts : List Token) (fs : List Lits) (ls : Lits) (gs : List Lits) → GoodLits v ls → t.bytes ≡ zero_word
     → Spells v ts (fs ++ clause_of ls ∷ []) [] gs → Spells v (t ∷ ts) fs ls gs
 spells_zero v t ts fs ls gs h e s = record {
@@ -50,6 +53,7 @@ spells_zero v t ts fs ls gs h e s = record {
       ∙ sym (append_assoc (map literal_word ls) (zero_word ∷ []) (flat_map clause_words s.spelled));
 }
 
+-- what is spelled behind a literal is spelled from it on
 spells_literal : (v : ℕ) (t : Token) (ts : List Token) (fs : List Lits) (ls : Lits) (l : Literal) (gs : List Lits) → t.bytes ≡ literal_word l
     → Spells v ts fs (ls ++ l ∷ []) gs → Spells v (t ∷ ts) fs ls gs
 spells_literal v t ts fs ls l gs e s = record {
@@ -88,6 +92,7 @@ spells_from v end (t ∷ ts) fs ls gs h e = elim (kind v t.bytes) [
 
 -- ---- to what is read
 
+-- the words of literals and 0 are read as one clause
 reads_clause : (v end : ℕ) (ls : Lits) (ts : List Token) (fs : List Lits) (ms : Lits) (more : List (List ℕ)) → GoodLits v ls
     → words_of ts ≡ map literal_word ls ++ (zero_word ∷ more)
     → (rest : List Token) × (words_of rest ≡ more) × (clauses_from v end ts fs ms ≡ clauses_from v end rest (fs ++ clause_of (ms ++ ls) ∷ []) [])
@@ -108,9 +113,11 @@ reads_clause v end (l ∷ ls) (t ∷ ts) fs ms more h e =
           ∙ ap (λ (ns : Lits). clauses_from v end r.0 (fs ++ clause_of ns ∷ []) []) (append_assoc ms (l ∷ []) ls),
     )
 
+-- literals that spell a clause are over the variables
 good_spelled : (v : ℕ) (ls c : Lits) → IsSpelled v ls c → GoodLits v ls
 good_spelled v ls c s l k = let there = (s.lits l).0 k in (s.clause.literals l there, s.within l there)
 
+-- the clause that literals spell is the one that is made of them
 same_clause : (v : ℕ) (ls c : Lits) → IsSpelled v ls c → c ≡ clause_of ls
 same_clause v ls c s = clause_of-ordered c ls s.clause.ordered (same_sym ls c s.lits)
 

@@ -20,6 +20,7 @@ use Rattle.cnf_text_laws.proofs.TokenOrder.{InOrder, BeginsBehind, AllBehind, to
 use Rattle.cnf_text_laws.proofs.HeaderOrNot.{answer}
 use Rattle.cnf_text_laws.proofs.CnfsRead.{cnf_from-good, cnf_from-stops, counted-same, cnf_in-short, cnf_in-long}
 
+-- another number of clauses than the header says is a fault
 counted-other : (v : ℕ) (fs : List Lits) (k : ℕ) → (length fs ≡ k → ⊥) → counted v k fs ≡ Err (Count k (length fs))
 counted-other v fs k h = let test : (length fs == k) ≡ false = ne_eqb (length fs) k h in rw test refl
 
@@ -29,6 +30,7 @@ cnf_from-headed : (end line : ℕ) (p c d n : Token) (body : List Token) (v k : 
 cnf_from-headed end line p c d n body v k h b =
     cnf_from-good end line (p ∷ c ∷ d ∷ n ∷ body) v k body (headed_alone end line p c d n body v k h b)
 
+-- a fault of the clauses is the fault of the text
 headed_fault : (end line : ℕ) (p c d n : Token) (body : List Token) (v k : ℕ) (e : CnfError) → Headed line p c d n v k → BeginsBehind line body
     → clauses_from v end body [] [] ≡ Err e → cnf_from end line (p ∷ c ∷ d ∷ n ∷ body) ≡ Err e
 headed_fault end line p c d n body v k e h b f =
@@ -36,10 +38,12 @@ headed_fault end line p c d n body v k e h b f =
 
 -- ---- from what is computed
 
+-- a token of the clauses stands in the text behind the header and those before it
 body_parts : (p c d n : Token) (body before : List Token) (t : Token) (after : List Token) → body ≡ before ++ (t ∷ after)
     → p ∷ c ∷ d ∷ n ∷ body ≡ (p ∷ c ∷ d ∷ n ∷ before) ++ (t ∷ after)
 body_parts p c d n body before t after e = ap (λ (us : List Token). p ∷ c ∷ d ∷ n ∷ us) e
 
+-- a fault of the clauses that is read is the text's by definition
 fault_in_body : (end line : ℕ) (p c d n : Token) (body : List Token) (v k : ℕ) (e : CnfError) → Headed line p c d n v k → AllBehind line body
     → BodyFault v end body e → FaultOf end line (p ∷ c ∷ d ∷ n ∷ body) e
 fault_in_body end line p c d n body v k e h b f =
@@ -75,6 +79,7 @@ fault_in_body end line p c d n body v k e h b f =
           )
     ]
 
+-- where the clauses are whole, the fault is their number
 fault_of_count : (end line : ℕ) (p c d n : Token) (body : List Token) (v k : ℕ) (e : CnfError) → Headed line p c d n v k → AllBehind line body
     → AllRight v body → ends_in_zero true (words_of body) ≡ true → cnf_from end line (p ∷ c ∷ d ∷ n ∷ body) ≡ Err e
     → FaultOf end line (p ∷ c ∷ d ∷ n ∷ body) e
@@ -90,6 +95,7 @@ fault_of_count end line p c d n body v k e h b a whole f =
           (each_of_parts line p c d n body v k h b a, whole, (h.fourth.1, w.2), λ s. other (sym s))
     ]
 
+-- where a clause is open at the end, the fault is the end
 fault_of_end : (end line : ℕ) (p c d n : Token) (body : List Token) (v k : ℕ) (e : CnfError) → Headed line p c d n v k → AllBehind line body
     → AllRight v body → ends_in_zero true (words_of body) ≡ false → cnf_from end line (p ∷ c ∷ d ∷ n ∷ body) ≡ Err e
     → FaultOf end line (p ∷ c ∷ d ∷ n ∷ body) e
@@ -99,6 +105,7 @@ fault_of_end end line p c d n body v k e h b a open_clause f =
     subst (λ (x : CnfError). FaultOf end line (p ∷ c ∷ d ∷ n ∷ body) x) fault
     (inr (each_of_parts line p c d n body v k h b a, λ w. (let whole : ends_in_zero true (words_of body) ≡ true = w in cc), refl))
 
+-- the fault that is read behind the header is the text's
 fault_behind : (end line : ℕ) (p c d n : Token) (body : List Token) (v k : ℕ) (e : CnfError) → Headed line p c d n v k → AllBehind line body
     → cnf_from end line (p ∷ c ∷ d ∷ n ∷ body) ≡ Err e → FaultOf end line (p ∷ c ∷ d ∷ n ∷ body) e
 fault_behind end line p c d n body v k e h b f = elim (judged_body v end body [] []) [
@@ -112,6 +119,7 @@ fault_behind end line p c d n body v k e h b f = elim (judged_body v end body []
       subst (λ (x : CnfError). FaultOf end line (p ∷ c ∷ d ∷ n ∷ body) x) fault (fault_in_body end line p c d n body v k j.0 h b j.1)
 ]
 
+-- the fault that is computed of the tokens is theirs
 fault_computed : (end line : ℕ) (ts : List Token) (e : CnfError) → InOrder ts → cnf_from end line ts ≡ Err e → FaultOf end line ts e
 fault_computed end line ts e o f = elim (answer end line ts) [
   | inl g ↦
@@ -133,6 +141,7 @@ fault_computed end line ts e o f = elim (answer end line ts) [
 
 -- ---- to what is computed
 
+-- the first token behind the header that can't stand or is out of range is the fault that is read
 bad_behind : (end line : ℕ) (p c d n : Token) (us : List Token) (t : Token) (after : List Token) (v k : ℕ) (e : CnfError) → Headed line p c d n v k
     → BeginsBehind line (us ++ (t ∷ after)) → AllRight v us
     → ((IsClauseWord t.bytes → ⊥) × (e ≡ Syntax t.at)) ⊎ (Outside v t.bytes × (e ≡ VarRange t.at))
@@ -142,6 +151,7 @@ bad_behind end line p c d n us t after v k e h b a f =
     (fault_body v end (us ++ (t ∷ after)) e [] []
     (record { before = us; token = t; after = after; parts = refl; right = a; fault = f }))
 
+-- the first token that can't stand is the fault that is read
 computed_bad : (end line : ℕ) (before : List Token) (t : Token) (after : List Token) → InOrder (before ++ (t ∷ after)) → EachRight line before → (CanStand line before t → ⊥)
     → cnf_from end line (before ++ (t ∷ after)) ≡ Err (Syntax t.at)
 computed_bad end line [] t after o h k = cnf_from-stops end line (t ∷ after) (Syntax t.at) (first_stops end line t after k)
@@ -164,11 +174,13 @@ computed_bad end line (p ∷ c ∷ d ∷ n ∷ u ∷ us) t after o h k =
     (all_of_each line p c d n (u ∷ us) head.0 head.2.third.1 h)
     (inl (λ w. k (behind_next line (u ∷ us) t after (all_behind line (u ∷ us ++ t ∷ after) o.1.1.1.1 (alone_of_each line p c d n (u ∷ us) h)), w), refl))
 
+-- where a token can stand behind the header, the header is alone on its line
 alone_out : (line : ℕ) (p c d n : Token) (us : List Token) (t : Token) (after : List Token) → EachRight line (p ∷ c ∷ d ∷ n ∷ us) → CanStand line (p ∷ c ∷ d ∷ n ∷ us) t
     → BeginsBehind line (us ++ (t ∷ after))
 alone_out line p c d n [] t after h s = s.0
 alone_out line p c d n (u ∷ us) t after h s = alone_of_each line p c d n (u ∷ us) h
 
+-- the first literal of a greater variable is the fault that is read
 computed_out : (end line : ℕ) (before : List Token) (t : Token) (after : List Token) → EachRight line before → CanStand line before t → IsOutOfRange before t
     → cnf_from end line (before ++ (t ∷ after)) ≡ Err (VarRange t.at)
 computed_out end line [] t after h s o = absurd o
@@ -180,6 +192,7 @@ computed_out end line (p ∷ c ∷ d ∷ n ∷ us) t after h s o =
     bad_behind end line p c d n us t after head.0 head.1 (VarRange t.at) head.2 (alone_out line p c d n us t after h s)
     (all_of_each line p c d n us head.0 head.2.third.1 h) (inr (outside_of p c d n us t head.0 head.2.third.1 o, refl))
 
+-- the end of a text that isn't whole is the fault that is read
 computed_short : (end line : ℕ) (ts : List Token) → EachRight line ts → (IsWhole ts → ⊥) → cnf_from end line ts ≡ Err (Syntax end)
 computed_short end line [] h w = refl
 computed_short end line (p ∷ []) h w = cnf_from-stops end line (p ∷ []) (Syntax end) (ends_behind_first end line p (first_stands line p [] h))
@@ -193,6 +206,7 @@ computed_short end line (p ∷ c ∷ d ∷ n ∷ us) h w =
     headed_fault end line p c d n us head.0 head.1 (Syntax end) head.2 (alone_of_each line p c d n us h)
     (open_body head.0 end us (all_of_each line p c d n us head.0 head.2.third.1 h) (false_from_ne_true (ends_in_zero true (words_of us)) w))
 
+-- another number of clauses than the header says is the fault that is read
 computed_count : (end line : ℕ) (ts : List Token) (said found : ℕ) → EachRight line ts → IsWhole ts → Counts ts said found → said ≢ found
     → cnf_from end line ts ≡ Err (Count said found)
 computed_count end line [] said found h w k o = absurd w
@@ -210,6 +224,7 @@ computed_count end line (p ∷ c ∷ d ∷ n ∷ us) said found h w k o =
     ∙ counted-other head.0 body.0 said (λ e. o (sym e ∙ number))
     ∙ ap {B = Result Formula CnfError} (λ (x : ℕ). Err (Count said x)) number
 
+-- the fault of the tokens is the one that is read
 computed_fault : (end line : ℕ) (ts : List Token) (e : CnfError) → InOrder ts → FaultOf end line ts e → cnf_from end line ts ≡ Err e
 computed_fault end line ts TooLong o h = absurd h
 computed_fault end line ts (Syntax at) o (inl h) =

@@ -40,6 +40,7 @@ counted-same v fs k e = let test : (length fs == k) ≡ true = eq-eqb (length fs
 
 -- ---- from what is computed
 
+-- the four tokens of a header stand before the end of its line
 before_line : (line : ℕ) (p c d n : Token) (v k : ℕ) → Headed line p c d n v k → (t : Token) → Has (p ∷ c ∷ d ∷ n ∷ []) t → t.at < line
 before_line line p c d n v k h t (inl e) = subst (λ (u : Token). u.at < line) e h.first.0
 before_line line p c d n v k h t (inr (inl e)) = subst (λ (u : Token). u.at < line) e h.second.0
@@ -47,6 +48,7 @@ before_line line p c d n v k h t (inr (inr (inl e))) = subst (λ (u : Token). u.
 before_line line p c d n v k h t (inr (inr (inr (inl e)))) = subst (λ (u : Token). u.at < line) e h.fourth.0
 before_line line p c d n v k h t (inr (inr (inr (inr none)))) = absurd none
 
+-- the words of the four tokens are those of a header with these numbers
 headed_words : (line : ℕ) (p c d n : Token) (v k m : ℕ) → Headed line p c d n v k → m ≡ k → words_of (p ∷ c ∷ d ∷ n ∷ []) ≡ header_words v m
 headed_words line p c d n v k m h e =
     let a : p.bytes ≡ p_word = h.first.1 in
@@ -55,6 +57,7 @@ headed_words line p c d n v k m h e =
     let y : n.bytes ≡ decimal m = h.fourth.1.0 ∙ ap decimal (sym e) in
     cc
 
+-- clauses that are read behind a header spell the formula, where there are as many as it says
 spells_good : (end line : ℕ) (ts : List Token) → InOrder ts → (g : Good end line ts) (fs : List Lits) → clauses_from g.variables end g.body [] [] ≡ Ok fs
     → length fs ≡ g.clauses → SpellsFormula line ts (record { variables = g.variables; clauses = fs })
 spells_good end line ts o g fs read count =
@@ -89,6 +92,7 @@ spells_computed end line ts f o e = elim (answer end line ts) [
 
 -- ---- to what is computed
 
+-- the tokens on the first line are the four of a header with these numbers
 record FourTokens (line : ℕ) (header : List Token) (v k : ℕ) : Type 0 where
   p : Token
   c : Token
@@ -97,6 +101,7 @@ record FourTokens (line : ℕ) (header : List Token) (v k : ℕ) : Type 0 where
   same : header ≡ p ∷ c ∷ d ∷ n ∷ []
   headed : Headed line p c d n v k
 
+-- tokens on the first line with the words of a header are its four
 four_tokens : (line : ℕ) (header : List Token) (v k : ℕ) → words_of header ≡ header_words v k → ((t : Token) → Has header t → t.at < line)
     → v ≤ MAX_VARIABLE → k ≤ MAX_CLAUSES → FourTokens line header v k
 four_tokens line [] v k e h i j = absurd (cc)

@@ -35,9 +35,11 @@ Stops end line ts =
 abbrev pub Answer : ℕ → ℕ → List Token → Type 0
 Answer end line ts = Good end line ts ⊎ Stops end line ts
 
+-- a token that can't stand behind right ones is the first bad one
 first_bad : (line : ℕ) (before : List Token) (t : Token) (after : List Token) → EachRight line before → (CanStand line before t → ⊥) → FirstBad line (before ++ (t ∷ after)) t
 first_bad line before t after h k = record { before = before; after = after; parts = refl; each_before = h; cannot = k }
 
+-- behind four tokens of a header the line ends, or a fifth token can't stand
 answer4 : (end line : ℕ) (p c d n : Token) (ts : List Token) (v k : ℕ) → Headed line p c d n v k → Answer end line (p ∷ c ∷ d ∷ n ∷ ts)
 answer4 end line p c d n [] v k h = inl (record {
   p = p;
@@ -74,6 +76,7 @@ answer4 end line p c d n (t ∷ ts) v k h = elim (cases_lt t.at line) [
   })
 ]
 
+-- behind three tokens of a header the number of clauses stands, or no header does
 answer3 : (end line : ℕ) (p c d : Token) (ts : List Token) (v : ℕ) → CanStand line [] p → CanStand line (p ∷ []) c → NumberStands line MAX_VARIABLE d v → Answer end line (p ∷ c ∷ d ∷ ts)
 answer3 end line p c d [] v h i j = inr (inr (
   right_with_third line p c d [] h i (j.0, (v, j.1)) (each_nil (λ us. IsRight line (p ∷ c ∷ d ∷ us))),
@@ -89,6 +92,7 @@ answer3 end line p c d (n ∷ ts) v h i j = elim (number_cases line MAX_CLAUSES 
   ))
 ]
 
+-- behind two tokens of a header the greatest variable stands, or no header does
 answer2 : (end line : ℕ) (p c : Token) (ts : List Token) → CanStand line [] p → CanStand line (p ∷ []) c → Answer end line (p ∷ c ∷ ts)
 answer2 end line p c [] h i = inr (inr (right_with_second line p c [] h i (each_nil (λ us. IsRight line (p ∷ c ∷ us))), λ w. w, ends_behind_second end line p c h i))
 answer2 end line p c (d ∷ ts) h i = elim (number_cases line MAX_VARIABLE d max_variable) [
@@ -100,6 +104,7 @@ answer2 end line p c (d ∷ ts) h i = elim (number_cases line MAX_VARIABLE d max
   ))
 ]
 
+-- behind the first token of a header the second one stands, or no header does
 answer1 : (end line : ℕ) (p : Token) (ts : List Token) → CanStand line [] p → Answer end line (p ∷ ts)
 answer1 end line p [] h = inr (inr (right_with_first line p [] h (each_nil (λ us. IsRight line (p ∷ us))), λ w. w, ends_behind_first end line p h))
 answer1 end line p (c ∷ ts) h = elim (word_cases line cnf_word c) [

@@ -16,12 +16,14 @@ use Rattle.text_defs.proofs.NumberLemmas.{number_within-spelled, spelled-number_
 
 -- ---- one token
 
+-- the wanted word on the header's line is read
 word_stands : (end line : ℕ) (w : List ℕ) (t : Token) (ts : List Token) → (t.at < line) × (t.bytes ≡ w) → behind_word end line w (t ∷ ts) ≡ Ok ts
 word_stands end line w t ts h =
     let same : same_word t.bytes w ≡ true = ap (λ (u : List ℕ). same_word u w) h.1 ∙ same_word-itself w in
     let test : (nat_lt t.at line && same_word t.bytes w) ≡ true = and_from (nat_lt t.at line) (same_word t.bytes w) (lt-ltb t.at line h.0) same in
     rw test refl
 
+-- a token that isn't the wanted word on the header's line is the fault
 word_bad : (end line : ℕ) (w : List ℕ) (t : Token) (ts : List Token) → ((t.at < line) × (t.bytes ≡ w) → ⊥) → behind_word end line w (t ∷ ts) ≡ Err (Syntax t.at)
 word_bad end line w t ts h =
     let test : (nat_lt t.at line && same_word t.bytes w) ≡ false =
@@ -43,22 +45,27 @@ word_cases line w t = elim (cases_Bool (nat_lt t.at line && same_word t.bytes w)
 abbrev pub NumberStands : ℕ → ℕ → Token → ℕ → Type 0
 NumberStands line max t n = (t.at < line) × SpellsNumber max t.bytes n
 
+-- a number up to the greatest, on the header's line, is read
 number_stands : (end line max : ℕ) (t : Token) (ts : List Token) (n : ℕ) → max < 2 ^ 64 → NumberStands line max t n → number_before end line max (t ∷ ts) ≡ Ok (n, ts)
 number_stands end line max t ts n small h =
     let test : nat_lt t.at line ≡ true = lt-ltb t.at line h.0 in
     let found : number_within max t.bytes ≡ Some n = spelled-number_within max n t.bytes small h.1.0 h.1.1 in
     rw (test, found) refl
 
+-- a word that spells no number up to the greatest is read as none
 no_number : (max : ℕ) (w : List ℕ) (o : Option ℕ) → max < 2 ^ 64 → number_within max w ≡ o → (((n : ℕ) × SpellsNumber max w n) → ⊥) → number_within max w ≡ None
 no_number max w None small e h = e
 no_number max w (Some n) small e h = absurd (h (n, number_within-spelled max n w small e))
 
+-- a token behind the header's line is the fault, where a number is wanted
 number_off : (end line max : ℕ) (t : Token) (ts : List Token) → nat_lt t.at line ≡ false → number_before end line max (t ∷ ts) ≡ Err (Syntax t.at)
 number_off end line max t ts e = rw e refl
 
+-- a token that is no number up to the greatest is the fault
 number_none : (end line max : ℕ) (t : Token) (ts : List Token) → nat_lt t.at line ≡ true → number_within max t.bytes ≡ None → number_before end line max (t ∷ ts) ≡ Err (Syntax t.at)
 number_none end line max t ts e h = rw (e, h) refl
 
+-- a token that isn't a number up to the greatest, on the header's line, is the fault
 number_bad : (end line max : ℕ) (t : Token) (ts : List Token) → max < 2 ^ 64 → ((t.at < line) × ((n : ℕ) × SpellsNumber max t.bytes n) → ⊥)
     → number_before end line max (t ∷ ts) ≡ Err (Syntax t.at)
 number_bad end line max t ts small h = elim (cases_Bool (nat_lt t.at line)) [
@@ -68,6 +75,7 @@ number_bad end line max t ts small h = elim (cases_Bool (nat_lt t.at line)) [
   | inr e ↦ number_off end line max t ts e
 ]
 
+-- a token on the header's line is a number up to the greatest, or none
 number_if : (line max : ℕ) (t : Token) (o : Option ℕ) → max < 2 ^ 64 → number_within max t.bytes ≡ o → t.at < line
     → ((n : ℕ) × NumberStands line max t n) ⊎ ((t.at < line) × ((n : ℕ) × SpellsNumber max t.bytes n) → ⊥)
 number_if line max t (Some n) small e lt = inl (n, (lt, number_within-spelled max n t.bytes small e))
@@ -80,28 +88,35 @@ number_cases line max t small = elim (cases_lt t.at line) [
   | inr le ↦ inr (λ h. let lt : t.at < line = h.0 in omega arith)
 ]
 
+-- tokens behind the header's line are left to be read
 behind_ok : (line : ℕ) (ts : List Token) → BeginsBehind line ts → behind_line line ts ≡ Ok ts
 behind_ok line [] h = refl
 behind_ok line (t ∷ ts) h = let test : nat_lt t.at line ≡ false = le-ltb t.at line h in rw test refl
 
+-- a further token on the header's line is the fault
 behind_bad : (line : ℕ) (t : Token) (ts : List Token) → t.at < line → behind_line line (t ∷ ts) ≡ Err (Syntax t.at)
 behind_bad line t ts h = let test : nat_lt t.at line ≡ true = lt-ltb t.at line h in rw test refl
 
+-- the next token stands behind the header's line or on it
 behind_cases : (line : ℕ) (ts : List Token) → BeginsBehind line ts ⊎ ((t : Token) × (us : List Token) × (ts ≡ t ∷ us) × (t.at < line))
 behind_cases line [] = inl tt
 behind_cases line (t ∷ ts) = elim (cases_lt t.at line) [ inl lt ↦ inr (t, ts, refl, lt) | inr le ↦ inl le ]
 
 -- ---- what goes on behind each token
 
+-- the header of these numbers, where its line ends here
 abbrev header4 : ℕ → ℕ → ℕ → List Token → Result Header CnfError
 header4 line v n ts = behind_line line ts >>= λ rest. Ok (record { variables = v; clauses = n; rest = rest })
 
+-- the header with this greatest variable, of which the number of clauses comes next
 abbrev header3 : ℕ → ℕ → ℕ → List Token → Result Header CnfError
 header3 end line v ts = number_before end line MAX_CLAUSES ts >>= λ c. header4 line v c.0 c.1
 
+-- the header, of which the greatest variable comes next
 abbrev header2 : ℕ → ℕ → List Token → Result Header CnfError
 header2 end line ts = number_before end line MAX_VARIABLE ts >>= λ v. header3 end line v.0 v.1
 
+-- the header, of which the second word comes next
 abbrev header1 : ℕ → ℕ → List Token → Result Header CnfError
 header1 end line ts = behind_word end line cnf_word ts >>= header2 end line
 
@@ -113,18 +128,23 @@ max_variable = omega arith
 pub max_clauses : MAX_CLAUSES < 2 ^ 64
 max_clauses = omega arith
 
+-- behind the word p, the header's second word comes next
 go0 : (end line : ℕ) (p : Token) (ts : List Token) → CanStand line [] p → header_in end line (p ∷ ts) ≡ header1 end line ts
 go0 end line p ts h = ap {B = Result Header CnfError} (λ r. r >>= header1 end line) (word_stands end line p_word p ts h)
 
+-- behind the word cnf, the greatest variable comes next
 go1 : (end line : ℕ) (p c : Token) (ts : List Token) → CanStand line (p ∷ []) c → header1 end line (c ∷ ts) ≡ header2 end line ts
 go1 end line p c ts h = ap {B = Result Header CnfError} (λ r. r >>= header2 end line) (word_stands end line cnf_word c ts h)
 
+-- behind the greatest variable, the number of clauses comes next
 go2 : (end line : ℕ) (t : Token) (ts : List Token) (v : ℕ) → NumberStands line MAX_VARIABLE t v → header2 end line (t ∷ ts) ≡ header3 end line v ts
 go2 end line t ts v h = ap {B = Result Header CnfError} (λ r. r >>= λ x. header3 end line x.0 x.1) (number_stands end line MAX_VARIABLE t ts v max_variable h)
 
+-- behind the number of clauses, the line is to end
 go3 : (end line v : ℕ) (t : Token) (ts : List Token) (n : ℕ) → NumberStands line MAX_CLAUSES t n → header3 end line v (t ∷ ts) ≡ header4 line v n ts
 go3 end line v t ts n h = ap {B = Result Header CnfError} (λ r. r >>= λ x. header4 line v x.0 x.1) (number_stands end line MAX_CLAUSES t ts n max_clauses h)
 
+-- a header whose line ends behind its numbers is read
 go4 : (line v n : ℕ) (ts : List Token) → BeginsBehind line ts → header4 line v n ts ≡ Ok (record { variables = v; clauses = n; rest = ts })
 go4 line v n ts h = ap {B = Result Header CnfError} (λ r. r >>= λ rest. Ok (record { variables = v; clauses = n; rest = rest })) (behind_ok line ts h)
 
@@ -132,15 +152,19 @@ go4 line v n ts h = ap {B = Result Header CnfError} (λ r. r >>= λ rest. Ok (re
 pub first_stops : (end line : ℕ) (p : Token) (ts : List Token) → (CanStand line [] p → ⊥) → header_in end line (p ∷ ts) ≡ Err (Syntax p.at)
 first_stops end line p ts h = ap {B = Result Header CnfError} (λ r. r >>= header1 end line) (word_bad end line p_word p ts h)
 
+-- a second token that can't stand is the fault
 stop1 : (end line : ℕ) (p c : Token) (ts : List Token) → (CanStand line (p ∷ []) c → ⊥) → header1 end line (c ∷ ts) ≡ Err (Syntax c.at)
 stop1 end line p c ts h = ap {B = Result Header CnfError} (λ r. r >>= header2 end line) (word_bad end line cnf_word c ts h)
 
+-- a third token that can't stand is the fault
 stop2 : (end line : ℕ) (p c t : Token) (ts : List Token) → (CanStand line (p ∷ c ∷ []) t → ⊥) → header2 end line (t ∷ ts) ≡ Err (Syntax t.at)
 stop2 end line p c t ts h = ap {B = Result Header CnfError} (λ r. r >>= λ x. header3 end line x.0 x.1) (number_bad end line MAX_VARIABLE t ts max_variable h)
 
+-- a fourth token that can't stand is the fault
 stop3 : (end line v : ℕ) (p c d t : Token) (ts : List Token) → (CanStand line (p ∷ c ∷ d ∷ []) t → ⊥) → header3 end line v (t ∷ ts) ≡ Err (Syntax t.at)
 stop3 end line v p c d t ts h = ap {B = Result Header CnfError} (λ r. r >>= λ x. header4 line v x.0 x.1) (number_bad end line MAX_CLAUSES t ts max_clauses h)
 
+-- a fifth token on the header's line is the fault
 stop4 : (line v n : ℕ) (t : Token) (ts : List Token) → t.at < line → header4 line v n (t ∷ ts) ≡ Err (Syntax t.at)
 stop4 line v n t ts h = ap {B = Result Header CnfError} (λ r. r >>= λ rest. Ok (record { variables = v; clauses = n; rest = rest })) (behind_bad line t ts h)
 

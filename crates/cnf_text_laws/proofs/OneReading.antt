@@ -7,6 +7,7 @@ use Rattle.sat_text_defs.specs.CnfText.{CnfText, CnfTextFault}
 use Rattle.cnf_text_laws.proofs.CnfsRead.{text_of_cnf_in, cnf_in_of_text}
 use Rattle.cnf_text_laws.proofs.CnfFaults.{fault_of_cnf_in, cnf_in_of_fault}
 
+-- what is computed of a text is its CNF or its fault
 computed : (text : List ℕ) (r : Result Formula CnfError) → cnf_in text ≡ r → ((f : Formula) × CnfText text f) ⊎ ((e : CnfError) × CnfTextFault text e)
 computed text (Ok f) h = inl (f, text_of_cnf_in text f h)
 computed text (Err e) h = inr (e, fault_of_cnf_in text e h)

@@ -7,6 +7,7 @@ use Rattle.sat_text_defs.specs.CnfReading.{cnf_in}
 use Rattle.sat_text_defs.specs.CnfText.{CnfText, IsFormula, AreSpelled, EachWithin}
 use Rattle.cnf_text_laws.proofs.CnfsRead.{text_of_cnf_in}
 
+-- each clause that is spelled is in its order and over the variables
 spelled_within : (v : ℕ) (spelled cs : List Lits) → AreSpelled v spelled cs → (c : Lits) → Has cs c → IsClause c × WithinVariables v c
 spelled_within v [] [] h c none = absurd none
 spelled_within v [] (d ∷ ds) h c k = absurd h

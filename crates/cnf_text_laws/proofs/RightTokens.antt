@@ -113,14 +113,17 @@ alone_of_each line p c d n (t ∷ ts) h =
 
 -- ---- the clauses
 
+-- a literal or 0 that is over the variables is right
 word_right : (v : ℕ) (w : List ℕ) → IsClauseWord w → (Outside v w → ⊥) → RightWord v w
 word_right v w (inl z) h = inl z
 word_right v w (inr k) h = elim (cases_lt v k.0.variable) [ inl lt ↦ absurd (h (k.0, k.1, lt)) | inr le ↦ inr (k.0, k.1, le) ]
 
+-- a token that is right behind the header and others is 0 or a literal over its variables
 right_word : (line : ℕ) (p c d n : Token) (v : ℕ) → SpellsNumber MAX_VARIABLE d.bytes v → (before : List Token) (t : Token)
     → IsRight line (p ∷ c ∷ d ∷ n ∷ before) t → RightWord v t.bytes
 right_word line p c d n v num before t h = word_right v t.bytes h.0.1 (λ o. h.1 (v, num, o))
 
+-- tokens each of which passes a test that only right ones pass are all right
 all_of : (P : List Token → Token → Type 0) (v : ℕ) → ((before : List Token) (t : Token) → P before t → RightWord v t.bytes) → (ts : List Token) → Each P ts → AllRight v ts
 all_of P v f [] h = tt
 all_of P v f (t ∷ ts) h =
@@ -138,6 +141,7 @@ outside_of p c d n us t v num o =
     let lt : o.0 < o.2.0.variable = o.2.2 in
     (o.2.0, o.2.1, (let more : v < o.2.0.variable = omega arith in more))
 
+-- where right tokens behind the line pass a test, each of tokens that are all right passes it
 each_of_all : (P : List Token → Token → Type 0) (line v : ℕ) → ((before : List Token) (t : Token) → line ≤ t.at → RightWord v t.bytes → P before t) → (ts : List Token)
     → AllBehind line ts → AllRight v ts → Each P ts
 each_of_all P line v f [] b h = each_nil P

@@ -17,9 +17,11 @@ record Placed (at : ℕ) (ts : List Token) : Type 0 where
   from : (t : Token) → Has ts t → at ≤ t.at
   order : InOrder ts
 
+-- tokens from a place on are from the place before it on
 placed_later : (at : ℕ) (ts : List Token) → Placed (at + 1) ts → Placed at ts
 placed_later at ts h = record { from = λ t k. (let le : at + 1 ≤ t.at = h.from t k in omega arith); order = h.order }
 
+-- a token at a place, and others behind the place, are in order
 placed_cons : (at : ℕ) (bytes : List ℕ) (ts : List Token) → Placed (at + 1) ts → Placed at (record { at = at; bytes = bytes } ∷ ts)
 placed_cons at bytes ts h = record {
   from = λ t k. elim k [
@@ -29,16 +31,19 @@ placed_cons at bytes ts h = record {
   order = (λ u k. (let le : at + 1 ≤ u.at = h.from u k in omega arith), h.order);
 }
 
+-- tokens are still in order where the first one begins a byte earlier
 placed_lengthened : (at b : ℕ) (ts : List Token) → Placed (at + 1) ts → Placed at (lengthened at b ts)
 placed_lengthened at b [] h = placed_cons at (b ∷ []) [] h
 placed_lengthened at b (t ∷ ts) h = placed_cons at (b ∷ t.bytes) ts (record { from = λ u k. h.from u (inr k); order = h.order.1 })
 
+-- with one more byte in front, separator or not, tokens are in order from its place on
 placed_if : (at b : ℕ) (ts : List Token) (x y : Bool) → Placed (at + 1) ts
     → Placed at (if x then ts else (if y then lengthened at b ts else (record { at = at; bytes = b ∷ [] } ∷ ts)))
 placed_if at b ts true y h = placed_later at ts h
 placed_if at b ts false true h = placed_lengthened at b ts h
 placed_if at b ts false false h = placed_cons at (b ∷ []) ts h
 
+-- the tokens of a text stand in order
 placed_tokens : (s : ℕ → Bool) (at : ℕ) (bs : List ℕ) → Placed at (tokens s at bs)
 placed_tokens s at [] = record { from = λ t k. absurd k; order = tt }
 placed_tokens s at (b ∷ bs) = placed_if at b (tokens s (at + 1) bs) (s b) (begins_with_token s bs) (placed_tokens s (at + 1) bs)
@@ -63,6 +68,7 @@ abbrev pub AllBehind : ℕ → List Token → Type 0
 AllBehind line [] = Unit {0}
 AllBehind line (t ∷ ts) = (line ≤ t.at) × AllBehind line ts
 
+-- tokens of which each is behind the line are all behind it
 behind_each : (line : ℕ) (ts : List Token) → ((t : Token) → Has ts t → line ≤ t.at) → AllBehind line ts
 behind_each line [] h = tt
 behind_each line (t ∷ ts) h = (h t (inl refl), behind_each line ts (λ u k. h u (inr k)))

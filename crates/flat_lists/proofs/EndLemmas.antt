@@ -10,6 +10,7 @@ pub begins_before_end : (from : ℕ) (ends : List ℕ) (end : ℕ) → EndsInOrd
 begins_before_end from [] end h = omega arith
 begins_before_end from (e ∷ es) end h = let rest = begins_before_end e es end h.1 in let le = h.0 in omega arith
 
+-- there are as many lists as ends
 pub length-parts : {T : Type 0} (from : ℕ) (ends : List ℕ) (items : List T) → length (parts from ends items) ≡ length ends
 length-parts from [] items = refl
 length-parts from (e ∷ es) items = ap suc (length-parts e es items)
@@ -25,6 +26,7 @@ total-parts from (e ∷ es) items h =
     let cons : total (parts from (e ∷ es) items) ≡ length (take (e - from) (drop from items)) + total (parts e es items) = sum_by-cons length (take (e - from) (drop from items)) (parts e es items) in
     omega (arith, total-parts e es items h.1, first, cons)
 
+-- list k is what stands between the end before it and its own
 pub slice_get-parts : {T : Type 0} (from : ℕ) (ends : List ℕ) (items : List T) (k : ℕ) → k < length ends
     → slice_get (parts from ends items) k ≡ Some (take (get_or ends k 0 - begin_of from ends k) (drop (begin_of from ends k) items))
 slice_get-parts from [] items k lt = absurd (omega arith)
@@ -32,6 +34,7 @@ slice_get-parts from (e ∷ es) items zero lt = refl
 slice_get-parts from (e ∷ es) items (suc zero) lt = slice_get-parts e es items zero (omega arith)
 slice_get-parts from (e ∷ es) items (suc (suc k)) lt = slice_get-parts e es items (suc k) (omega arith)
 
+-- a list begins no later than it ends, and ends within the items
 pub begin_le_end : (from : ℕ) (ends : List ℕ) (end k : ℕ) → EndsInOrder from ends end → k < length ends
     → (begin_of from ends k ≤ get_or ends k 0) × (get_or ends k 0 ≤ end)
 begin_le_end from [] end k h lt = absurd (omega arith)
@@ -54,6 +57,7 @@ parts-push from (e ∷ es) items xs h =
     let rest = parts-push e es items xs h.1 in
     cc
 
+-- ends in order stay so with a later one behind them
 pub ordered-push : (from : ℕ) (ends : List ℕ) (end later : ℕ) → EndsInOrder from ends end → end ≤ later
     → EndsInOrder from (ends ++ later ∷ []) later
 ordered-push from [] end later h le = (omega arith, refl)
@@ -67,12 +71,14 @@ begins_after from (e ∷ es) end (suc zero) h le = h.0
 begins_after from (e ∷ es) end (suc (suc k)) h le =
     let first = h.0 in omega (arith, begins_after e es end (suc k) h.1 (omega arith))
 
+-- a list begins within the items
 pub begin_within : (from : ℕ) (ends : List ℕ) (end k : ℕ) → EndsInOrder from ends end → k ≤ length ends → begin_of from ends k ≤ end
 begin_within from ends end zero h le = begins_before_end from ends end h
 begin_within from [] end (suc k) h le = absurd (omega arith)
 begin_within from (e ∷ es) end (suc zero) h le = begins_before_end e es end h.1
 begin_within from (e ∷ es) end (suc (suc k)) h le = begin_within e es end (suc k) h.1 (omega arith)
 
+-- a list that ends before a cut is the same after the cut
 first_kept : {T : Type 0} (from e b : ℕ) (items : List T) → from ≤ e → e ≤ b
     → take (e - from) (drop from (take b items)) ≡ take (e - from) (drop from items)
 first_kept from e b items le below =
@@ -93,6 +99,7 @@ parts-take from (e ∷ es) items (suc (suc k)) h le =
     let rest = parts-take e es items (suc k) h.1 (omega arith) in
     cc
 
+-- the first k ends are in order, up to where list k begins
 pub ordered-take : (from : ℕ) (ends : List ℕ) (end k : ℕ) → EndsInOrder from ends end → k ≤ length ends
     → EndsInOrder from (take k ends) (begin_of from ends k)
 ordered-take from ends end zero h le = refl
@@ -100,6 +107,7 @@ ordered-take from [] end (suc k) h le = absurd (omega arith)
 ordered-take from (e ∷ es) end (suc zero) h le = (h.0, refl)
 ordered-take from (e ∷ es) end (suc (suc k)) h le = (h.0, ordered-take e es end (suc k) h.1 (omega arith))
 
+-- a list behind another begins where that one ends
 pub begin_of_later : (ends : List ℕ) (k : ℕ) → 0 < k → get_or ends (k - 1) 0 ≡ begin_of 0 ends k
 begin_of_later ends zero h = absurd (omega arith)
 begin_of_later ends (suc k) h = ap (λ n. get_or ends n 0) (let e : suc k - 1 ≡ k = omega arith in e)
@@ -129,6 +137,7 @@ IsFlat-push ends later items xs more end h few_items few_lists e f g =
       few_lists = omega arith;
     }
 
+-- items with an end behind them are one more list
 pub parts-pushed : {T : Type 0} (ends later : List ℕ) (items xs more : List T) (end : ℕ) → IsFlat ends (length items)
     → later ≡ ends ++ end ∷ [] → more ≡ items ++ xs → end ≡ length more
     → parts 0 later more ≡ parts 0 ends items ++ xs ∷ []
@@ -152,6 +161,7 @@ IsFlat-pop ends fewer items less k begin h le b e f =
       few_lists = omega arith;
     }
 
+-- the first k ends and the items up to there are the first k lists
 pub parts-popped : {T : Type 0} (ends fewer : List ℕ) (items less : List T) (k begin : ℕ) → IsFlat ends (length items)
     → k ≤ length ends → begin ≡ begin_of 0 ends k → fewer ≡ take k ends → less ≡ take begin items
     → parts 0 fewer less ≡ take k (parts 0 ends items)
@@ -165,6 +175,7 @@ pub record Shows {T : Type 0} (f : Flat T) (ends : List ℕ) (items : List T) (l
   pub list_room_is : f.list_room ≡ list_room
   pub item_room_is : f.item_room ≡ item_room
 
+-- lists that are seen from these arrays have as many items and as much room as they
 pub shows : {T : Type 0} (f : Flat T) (ends : List ℕ) (items : List T) (list_room item_room : ℕ) → IsFlat ends (length items)
     → record { lists = parts 0 ends items; list_room = list_room; item_room = item_room } ≡ f → Shows f ends items list_room item_room
 shows {T} f ends items list_room item_room h e =

@@ -20,7 +20,7 @@ use Rattle.cell_defs.specs.Cones.{in_cone}
 use Rattle.cell_defs.specs.Evaluation.{source_bit, CellBits}
 use Rattle.miter_defs.specs.Numberings.{zero_variable, signal_variable, rows_before, row_variable, cone_before, cone_size, cell_variable, difference_variable, variable_count, source_variable}
 use Rattle.miter_defs.specs.Miters.{row_at, no_output}
-use Rattle.miter_laws.specs.Extensions.{Gives}
+use Rattle.miter_laws.specs.Extensions.{GivesBit}
 use Rattle.fabric_laws.proofs.NumberedLemmas.{length-list_of}
 use Rattle.miter_laws.proofs.Membership.{Has_place, Each, each_nil, each_cons, each_append, each_map, each_list_of}
 use Rattle.miter_laws.proofs.Places.{at_left, at_right, at_list_of, length-flat_map_by, at_flat_map, kept, length-kept, at_kept, each_kept}
@@ -52,16 +52,16 @@ assignment net cells x s b = 0 ∷ (s ++ (flat_map (row_bits s) net.nodes ++ (co
 
 -- the assignment gives each variable its bit
 pub record GivesAll (net : Network) (cells : CellsValue) (x s b a : List ℕ) : Type 0 where
-  pub zero : Gives a zero_variable 0
-  pub signals : (i : ℕ) → i < signals net → Gives a (signal_variable i) (get_or s i 0)
+  pub zero : GivesBit a zero_variable 0
+  pub signals : (i : ℕ) → i < signals net → GivesBit a (signal_variable i) (get_or s i 0)
   pub rows : (v r : ℕ) → v < length net.nodes → r < length (node_at net v).rows
-      → Gives a (row_variable net v r) (bit (hits (row_at net v r) (bits_at s (node_at net v).fan_ins)))
-  pub cone : (k : ℕ) → in_cone cells k ≡ true → Gives a (cell_variable net cells k) (get_or b k 0)
+      → GivesBit a (row_variable net v r) (bit (hits (row_at net v r) (bits_at s (node_at net v).fan_ins)))
+  pub cone : (k : ℕ) → in_cone cells k ≡ true → GivesBit a (cell_variable net cells k) (get_or b k 0)
   pub differences : (o : ℕ) → o < length net.outputs
-      → Gives a (difference_variable net cells o) (difference (net_output net s o) (pad_output cells x b o))
+      → GivesBit a (difference_variable net cells o) (difference (net_output net s o) (pad_output cells x b o))
 
 -- the variable of place i is i + 1
-gives_at : (a : List ℕ) (v i b : ℕ) → v ≡ i + 1 → slice_get a i ≡ Some b → Gives a v b
+gives_at : (a : List ℕ) (v i b : ℕ) → v ≡ i + 1 → slice_get a i ≡ Some b → GivesBit a v b
 gives_at a v i b e h = let place : v - 1 ≡ i = omega arith in ap (slice_get a) place ∙ h
 
 -- there is a bit for each row
@@ -75,7 +75,7 @@ length-cone cells b = length-kept cells.cone (λ k. get_or b k 0)
 
 -- place i behind zero and the signals
 behind_signals : (net : Network) (s rest : List ℕ) (v i y : ℕ) → length s ≡ signals net → v ≡ 2 + signals net + i
-    → slice_get rest i ≡ Some y → Gives (0 ∷ (s ++ rest)) v y
+    → slice_get rest i ≡ Some y → GivesBit (0 ∷ (s ++ rest)) v y
 behind_signals net s rest v i y e at h =
     gives_at (0 ∷ (s ++ rest)) v (1 + (length s + i)) y (omega arith)
     (at_right (0 ∷ []) (s ++ rest) (length s + i) (1 + (length s + i)) y (omega arith)
@@ -218,7 +218,7 @@ is_assignment net cells x s b bits settles cell_bits =
 pub gives_source : (net : Network) (cells : CellsValue) (x s b a : List ℕ) → GivesAll net cells x s b a → Settles net x s
     → IsBits (length net.inputs) x → (source : Source)
     → ((k : ℕ) → source ≡ Cell k → in_cone cells k ≡ true)
-    → Gives a (source_variable net cells source) (source_bit x b source)
+    → GivesBit a (source_variable net cells source) (source_bit x b source)
 gives_source net cells x s b a g settles bits Zero h = g.zero
 gives_source net cells x s b a g settles bits (Pad p) h =
     ⊎_elim

@@ -8,7 +8,7 @@ use Rattle.clause_defs.specs.Clauses.{Satisfies}
 use Rattle.fabric_defs.specs.Numbered.{list_of}
 use Rattle.fabric_defs.specs.Wirings.{table_bit}
 use Rattle.miter_defs.specs.Miters.{literal}
-use Rattle.miter_laws.specs.Extensions.{Gives}
+use Rattle.miter_laws.specs.Extensions.{GivesBit}
 use Rattle.miter_laws.proofs.Membership.{Has-append_left, Has-append_right, list_of-has, Each}
 use Rattle.miter_laws.proofs.Truth.{bit, true_literal}
 
@@ -61,8 +61,8 @@ bit-one (suc (suc b)) lt = absurd (omega arith)
 
 -- where the pins have the bits, the cell's bit is that of the table, so the clause of each number n is satisfied
 pub table_clause-holds : (a bits : List ℕ) (count z table n : ℕ) (f : ℕ → ℕ) → length bits ≡ count
-    → Each (λ b. b ≤ 1) bits → ((j : ℕ) → j < count → Gives a (f j) (get_or bits j 0))
-    → Gives a z (table_bit table bits) → n < 2 ^ count
+    → Each (λ b. b ≤ 1) bits → ((j : ℕ) → j < count → GivesBit a (f j) (get_or bits j 0))
+    → GivesBit a z (table_bit table bits) → n < 2 ^ count
     → Satisfies a (list_of count (λ j. literal (f j) (bit_at n j == 0)) ++ literal z (bit_at table n == 1) ∷ [])
 table_clause-holds a bits count z table n f e small pins given lt =
     elim (agree_or_differ (λ j. get_or bits j 0) (bit_at n) count) [

@@ -8,7 +8,7 @@ use Rattle.fabric_defs.specs.Numbered.{list_of}
 use Rattle.net_defs.specs.Evaluation.{allows, hits, bits_at}
 use Rattle.miter_defs.specs.Numberings.{signal_variable}
 use Rattle.miter_defs.specs.Miters.{literal, positive, negative, mark_literals, row_literals, hit_clauses, cover_clauses, difference_clauses}
-use Rattle.miter_laws.specs.Extensions.{Gives}
+use Rattle.miter_laws.specs.Extensions.{GivesBit}
 use Rattle.miter_laws.proofs.Membership.{Has-append_left, Has-append_right, Has-map_of, list_of-has, Each, each_nil, each_cons, each_one, each_append, each_map, each_list_of}
 
 -- the bit of a truth value
@@ -16,7 +16,7 @@ abbrev pub bit : Bool → ℕ
 bit b = if b then 1 else 0
 
 -- the sign of a literal that is true where its variable has this bit
-pub true_literal : (a : List ℕ) (v b : ℕ) (sign : Bool) → Gives a v b → b ≡ bit sign → IsTrueUnder a (literal v sign)
+pub true_literal : (a : List ℕ) (v b : ℕ) (sign : Bool) → GivesBit a v b → b ≡ bit sign → IsTrueUnder a (literal v sign)
 true_literal a v b sign h e = h ∙ ap Some e
 
 -- ---- the literals of a row
@@ -33,7 +33,7 @@ decided_append a p q true false x y = (y.0, Has-append_right p q y.0 y.1, y.2)
 decided_append a p q false h x y = (x.0, Has-append_left p q x.0 x.1, x.2)
 
 -- what a mark asks is true exactly where it may stand over the bit
-decided_mark : (a : List ℕ) (m : Mark) (s b : ℕ) → Gives a (signal_variable s) b → b ≤ 1
+decided_mark : (a : List ℕ) (m : Mark) (s b : ℕ) → GivesBit a (signal_variable s) b → b ≤ 1
     → Decided a (mark_literals m s) (allows m b)
 decided_mark a Zero s zero h le = each_one (IsTrueUnder a) (negative (signal_variable s)) h
 decided_mark a Zero s (suc zero) h le = (negative (signal_variable s), inl refl, h)
@@ -45,7 +45,7 @@ decided_mark a Any s b h le = each_nil (IsTrueUnder a)
 
 -- the assignment gives the signal its bit, which is 0 or 1
 pub record GivesSignal (a bits : List ℕ) (s : ℕ) : Type 0 where
-  pub given : Gives a (signal_variable s) (get_or bits s 0)
+  pub given : GivesBit a (signal_variable s) (get_or bits s 0)
   pub within : get_or bits s 0 ≤ 1
 
 -- what a row asks is true exactly where it hits
@@ -62,7 +62,7 @@ decided_row a bits (m ∷ ms) (s ∷ ss) e h =
 -- ---- the clauses of a row
 
 -- where the variable says whether all that is asked is true, its clauses are satisfied
-pub hit_clauses-hold : (a : List ℕ) (t : ℕ) (asked : Lits) (h : Bool) → Gives a t (bit h) → Decided a asked h
+pub hit_clauses-hold : (a : List ℕ) (t : ℕ) (asked : Lits) (h : Bool) → GivesBit a t (bit h) → Decided a asked h
     → Each (Satisfies a) (hit_clauses t asked)
 hit_clauses-hold a t asked true given all =
     each_append (Satisfies a) (map (λ l. negative t ∷ l ∷ []) asked) ((positive t ∷ map negation asked) ∷ [])
@@ -83,7 +83,7 @@ SomeBelow n h false = (r : ℕ) → r < n → h r ≡ false
 
 -- the node is on exactly where some test is true
 pub cover_clauses-hold : (a : List ℕ) (node n : ℕ) (on some : Bool) (f : ℕ → ℕ) (h : ℕ → Bool)
-    → Gives a node (if some then bit on else bit (not on)) → ((r : ℕ) → r < n → Gives a (f r) (bit (h r)))
+    → GivesBit a node (if some then bit on else bit (not on)) → ((r : ℕ) → r < n → GivesBit a (f r) (bit (h r)))
     → SomeBelow n h some → Each (Satisfies a) (cover_clauses node on (list_of n f))
 cover_clauses-hold a node n on true f h given rows one =
     let hit : ℕ = f one.0 in
@@ -123,7 +123,7 @@ abbrev pub difference : ℕ → ℕ → ℕ
 difference p q = if p == q then 0 else 1
 
 -- where the variable says whether the bits differ, its clauses are satisfied
-pub difference_clauses-hold : (a : List ℕ) (d u v p q : ℕ) → Gives a d (difference p q) → Gives a u p → Gives a v q → p ≤ 1 → q ≤ 1
+pub difference_clauses-hold : (a : List ℕ) (d u v p q : ℕ) → GivesBit a d (difference p q) → GivesBit a u p → GivesBit a v q → p ≤ 1 → q ≤ 1
     → Each (Satisfies a) (difference_clauses d u v)
 difference_clauses-hold a d u v (suc (suc n)) q given x y le lf = absurd (omega arith)
 difference_clauses-hold a d u v zero (suc (suc n)) given x y le lf = absurd (omega arith)

@@ -9,8 +9,8 @@ use Rattle.miter_defs.specs.Numberings.{signal_variable, variable_count}
 use Rattle.miter_defs.specs.Miters.{circuit_clauses, some_difference}
 
 -- the assignment gives the variable this bit
-abbrev pub Gives : List ℕ → ℕ → ℕ → Type 0
-Gives a variable b = slice_get a (variable - 1) ≡ Some b
+abbrev pub GivesBit : List ℕ → ℕ → ℕ → Type 0
+GivesBit a variable b = slice_get a (variable - 1) ≡ Some b
 
 -- where the inputs and the input pads have the bits x, the network's outputs and the first output pads differ
 abbrev pub OutputsDiffer : Network → CellsValue → List ℕ → Type 0
@@ -22,6 +22,6 @@ OutputsDiffer net cells x =
 -- the last one is too.
 pub record Extends (net : Network) (cells : CellsValue) (x a : List ℕ) : Type 0 where
   pub assignment : IsAssignment (variable_count net cells) a
-  pub inputs : (i : ℕ) → i < length net.inputs → Gives a (signal_variable i) (slice_index x i)
+  pub inputs : (i : ℕ) → i < length net.inputs → GivesBit a (signal_variable i) (slice_index x i)
   pub circuits : (c : Lits) → Has (map clause_of (circuit_clauses net cells)) c → Satisfies a c
   pub difference : OutputsDiffer net cells x → Satisfies a (clause_of (some_difference net cells))

@@ -22,11 +22,13 @@ module _ (f : List Lits) (t : List Entry) (w : ℕ) where
   pub right_joined : (from mid to : ℕ) → RightBetween f t w from mid → RightBetween f t w mid to → RightBetween f t w from to
   right_joined from mid to a b k low high = elim (cases_lt k mid) [ inl below ↦ a k low below | inr above ↦ b k above high ]
 
+  -- the first fault behind places without one is the first of all
   pub fault_joined : (from mid to n : ℕ) (v : Verdict) → from ≤ mid → to ≤ n → RightBetween f t w from mid → IsFirstFault f t w mid to (Some v) → IsFirstFault f t w from n (Some v)
   fault_joined from mid to n v le far right h =
       (h.0, (let low = h.1 in omega arith), (let high = h.2 in omega arith), right_joined from mid h.0 right h.3, h.4)
 
   module _ (n pieces : ℕ) where
+    -- where each worker's answer is that of its piece, the answers are those of the pieces, in order
     pub pieces_zip : (R : ℕ → Result (Option Verdict) NoMemory → Type 0)
         → ((p : ℕ) (r : Result (Option Verdict) NoMemory) → R p r → IsPiece f t w n pieces p r)
         → (p count : ℕ) (rs : List (Result (Option Verdict) NoMemory)) → AllZip R (range_with_len p count) rs → ArePieces f t w n pieces p rs
@@ -44,9 +46,11 @@ begins_in_order n pieces p some =
 pub first_begin : (n pieces : ℕ) → piece_begin n pieces 0 ≡ 0
 first_begin n pieces = omega arith
 
+-- the last piece ends with the last place
 pub last_end : (n pieces : ℕ) → 0 < pieces → piece_begin n pieces pieces ≡ n
 last_end n pieces some = mul-div_cancel_left n some
 
+-- each piece begins at a place or at the end
 pub begins_within : (n pieces p : ℕ) → p ≤ pieces → piece_begin n pieces p ≤ n
 begins_within n pieces p le = div-le_of_le-mul pieces (mul-le-mul_right n le)
 

@@ -67,7 +67,8 @@ fn first_of_pieces(
                 requires { (p < pieces) × (end ≤ length t.now)
                     × IsKnownBefore t.now room.now.marks.variables room.now.computed.clauses end
                     × SignsAreRight t.now room.now.limit end }
-                ensures { IsPiece f.entry.now.clauses t.entry.now room.entry.now.limit end pieces p result }
+                ensures { IsPiece f.entry.now.clauses t.entry.now room.entry.now.limit end pieces p
+                    result }
             {
                 check_piece(
                     alloc,

@@ -20,6 +20,7 @@ get_or-bits_of zero w i h = absurd (omega arith)
 get_or-bits_of (suc n) w zero h = sym (bit_at_lowest w)
 get_or-bits_of (suc n) w (suc i) h = get_or-bits_of n (w / 2) i (omega arith) ∙ sym (bit_at-suc w i)
 
+-- a bit is what a test for 1 tells of it
 tested : (b : ℕ) → b < 2 → b ≡ (if nat_eq b 1 then 1 else 0)
 tested zero h = refl
 tested (suc zero) h = refl
@@ -44,6 +45,7 @@ record IsWith (n v w i x : ℕ) : Type 0 where
   here : bit_at v i ≡ x
   others : (j : ℕ) → j < n → j ≢ i → bit_at v j ≡ bit_at w j
 
+-- with one bit of a word exchanged, its list of bits has that bit exchanged
 bits_of-with : (n v w i x : ℕ) → i < n → IsWith n v w i x → bits_of n v ≡ set (bits_of n w) i x
 bits_of-with zero v w i x lt h = absurd (omega arith)
 bits_of-with (suc n) v w zero x lt h =
@@ -67,6 +69,7 @@ bits_of-set n w i short lt =
       others = λ j below other. bit_at_set_other w64 w i (omega arith) j other;
     })
 
+-- setting one of the lowest n bits leaves a word of n bits one of n bits
 pub set_below : (n w i : ℕ) → n ≤ 64 → i < n → w < 2 ^ n → bit_or w (1 * 2 ^ i % 2 ^ 64) < 2 ^ n
 set_below n w i short lt within =
     or_lt n w (1 * 2 ^ i % 2 ^ 64) within (rw (one_shl i 64 (omega arith)) (pow_below i n lt))
@@ -79,9 +82,11 @@ bits_of-clear n w i short lt =
       others = λ j below other. bit_at_clear_other w64 w i (omega arith) j (omega arith) other;
     })
 
+-- clearing a bit leaves a word of n bits one of n bits
 pub clear_below : (n w i : ℕ) → w < 2 ^ n → bit_and w (bit_not w64 (1 * 2 ^ i % 2 ^ 64)) < 2 ^ n
 clear_below n w i within = let le = and_le_l w (bit_not w64 (1 * 2 ^ i % 2 ^ 64)) in omega arith
 
+-- two tests that pass in the same cases are the same
 by_cases : (p q : Bool) → (p ≡ true → q ≡ true) → (q ≡ true → p ≡ true) → p ≡ q
 by_cases true q h k = sym (h refl)
 by_cases false true h k = k refl

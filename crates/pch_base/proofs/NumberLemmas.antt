@@ -3,10 +3,10 @@ use Rattle.std.proofs.Common.{◌≡◌, ℕ, ◌+◌, ◌-◌, ◌*◌, ◌^◌
 use Rattle.std.specs.Char.{is_ascii_digit}
 use Rattle.std.proofs.lemmas.Bool.{lt-leb, leb-true, leb-false, cases_Bool}
 use Rattle.std.proofs.lemmas.List.{drop_more}
-use Rattle.text_defs.specs.Numbers.{Spells, number_from, number_in}
+use Rattle.text_defs.specs.Numbers.{Spells, number_from, number_in, at_most}
 use Rattle.text_defs.proofs.NumberLemmas.{number_from-le, number_in-spelled, spelled_from-number_in}
-use Rattle.pch_base.specs.Numbers.{at_most}
 
+-- where each number that there may be is above the greatest, there is none
 above : (max m : ℕ) (o : Option ℕ) → max < m → ((k : ℕ) → o ≡ Some k → m ≤ k) → None ≡ at_most max o
 above max m None lt le = refl
 above max m (Some k) lt le = let far = le k refl in rw (lt-leb k max (omega arith)) refl
@@ -22,6 +22,7 @@ at_most-above max n i text lt digit far e =
     let all : number_from (10 * n + (b - 48)) rest ≡ number_from 0 text = sym step ∙ ap (number_from n) (sym (drop_more text i 0 lt)) ∙ e in
     above max (10 * n + (b - 48)) (number_from 0 text) far (λ k is. number_from-le (10 * n + (b - 48)) rest k (all ∙ is))
 
+-- a number of the text that is at most the greatest is spelled by the text
 some_within : (max : ℕ) (text : List ℕ) (o : Option ℕ) → max < 2 ^ 64 → number_in text ≡ o → IfSome (at_most max o) (λ n. Spells text n × (n ≤ max))
 some_within max text None small e = tt
 some_within max text (Some n) small e =
@@ -34,6 +35,7 @@ some_within max text (Some n) small e =
 pub spelled_at_most : (max : ℕ) (text : List ℕ) → max < 2 ^ 64 → IfSome (at_most max (number_in text)) (λ n. Spells text n × (n ≤ max))
 spelled_at_most max text small = some_within max text (number_in text) small refl
 
+-- a number that is at most the greatest isn't left out
 none_from : (max : ℕ) (o : Option ℕ) (n : ℕ) → o ≡ Some n → n ≤ max → at_most max o ≡ None → ⊥
 none_from max None n e le none = cc
 none_from max (Some k) n e le none =

@@ -15,11 +15,13 @@ Has-Contains [] x h = absurd h
 Has-Contains (y ∷ ys) x (inl e) = (0, omega arith, e)
 Has-Contains (y ∷ ys) x (inr h) = let rest = Has-Contains ys x h in (suc rest.0, omega (arith, rest.1), rest.2)
 
+-- what std counts as contained is one of the list
 pub Contains-Has : {X : Type 0} (xs : List X) (x : X) → Contains xs x → Has xs x
 Contains-Has [] x h = absurd (omega (arith, h.1))
 Contains-Has (y ∷ ys) x (zero, lt, e) = inl e
 Contains-Has (y ∷ ys) x (suc k, lt, e) = inr (Contains-Has ys x (k, omega arith, e))
 
+-- the elements of two lists together are those of each
 pub Has-append : {X : Type 0} (xs ys : List X) (x : X) → Has (xs ++ ys) x ↔ (Has xs x ⊎ Has ys x)
 Has-append [] ys x = (λ h. inr h, λ h. elim h [ inl none ↦ absurd none | inr k ↦ k ])
 Has-append (z ∷ zs) ys x = grind (arith, Has-append zs ys x)
@@ -33,9 +35,11 @@ Has-take_next xs i d x lt h =
       | inr (inr none) ↦ absurd none
     ]
 
+-- clauses that are the same set as a third are the same set
 pub SameSet-trans : (c d e : Lits) → SameSet c d → SameSet d e → SameSet c e
 SameSet-trans c d e h k l = (λ x. (k l).0 ((h l).0 x), λ x. (h l).1 ((k l).1 x))
 
+-- literals in another order are the same clause
 pub SameSet-permutation : (c d : Lits) → IsPermutation c d → SameSet d c
 SameSet-permutation c d p l = (
   λ h. Contains-Has c l (Contains-permutation d c l (IsPermutation-sym c d p) (Has-Contains d l h)),
@@ -47,6 +51,7 @@ abbrev Climbs : Lits → Type 0
 Climbs [] = Unit {0}
 Climbs (l ∷ ls) = ((m : Literal) → Has ls m → code l ≤ code m) × Climbs ls
 
+-- literals sorted by their codes climb from each one to the next
 pub climbs_from_sorted : (c : Lits) → IsNonDecreasingBy code c → Climbs c
 climbs_from_sorted [] h = tt
 climbs_from_sorted (l ∷ ls) h = (
@@ -61,6 +66,7 @@ climbs_from_sorted (l ∷ ls) h = (
 abbrev pub same_code : Literal → Literal → Bool
 same_code l m = nat_eq (code l) (code m)
 
+-- leaving out a repeated literal, or keeping another one, leaves the set as it was
 dedup_keeps_next : (k x : Literal) (xs : Lits) (l : Literal) (b : Bool) → same_code x k ≡ b
     → SameSet (dedup_from same_code k xs) (k ∷ xs) → SameSet (dedup_from same_code x xs) (x ∷ xs)
     → Has (cond b (dedup_from same_code k xs) (k ∷ dedup_from same_code x xs)) l ↔ Has (k ∷ x ∷ xs) l
@@ -74,6 +80,7 @@ dedup_keeps : (k : Literal) (ls : Lits) → SameSet (dedup_from same_code k ls) 
 dedup_keeps k [] l = (λ h. h, λ h. h)
 dedup_keeps k (x ∷ xs) l = dedup_keeps_next k x xs l (same_code x k) refl (dedup_keeps k xs) (dedup_keeps x xs)
 
+-- behind a literal that is kept or left out as a repeated one, the literals stay in their order
 dedup_orders_next : (k x : Literal) (xs : Lits) (b : Bool) → same_code x k ≡ b → Climbs (k ∷ x ∷ xs)
     → IsOrdered (dedup_from same_code k xs) → IsOrdered (dedup_from same_code x xs)
     → IsOrdered (cond b (dedup_from same_code k xs) (k ∷ dedup_from same_code x xs))
@@ -88,6 +95,7 @@ dedup_orders_next k x xs false e h with_k with_x = (
   with_x,
 )
 
+-- climbing literals without the repeated ones are in their order
 dedup_orders : (k : Literal) (ls : Lits) → Climbs (k ∷ ls) → IsOrdered (dedup_from same_code k ls)
 dedup_orders k [] h = (λ m i. absurd i, tt)
 dedup_orders k (x ∷ xs) h =
@@ -99,6 +107,7 @@ pub IsOrdered-dedup : (c : Lits) → IsNonDecreasingBy code c → IsOrdered (ded
 IsOrdered-dedup [] h = tt
 IsOrdered-dedup (l ∷ ls) h = dedup_orders l ls (climbs_from_sorted (l ∷ ls) h)
 
+-- without its repeated literals a clause is the same set
 pub SameSet-dedup : (c : Lits) → SameSet (dedup same_code c) c
 SameSet-dedup [] l = (λ h. h, λ h. h)
 SameSet-dedup (k ∷ ls) l = dedup_keeps k ls l
@@ -115,6 +124,7 @@ any_next x y ys false e rest = (
   ],
 )
 
+-- a search by code finds a literal just where it is one of the list
 pub list_any-Has : (x : Literal) (c : Lits) → (list_any (λ z. same_code z x) c ≡ true) ↔ Has c x
 list_any-Has x [] = (λ h. absurd (cc), λ h. absurd h)
 list_any-Has x (y ∷ ys) = any_next x y ys (same_code y x) refl (list_any-Has x ys)

@@ -3,10 +3,12 @@ use Rattle.std.proofs.Common.{◌≡◌, ℕ, zero, suc, ◌*◌, ◌/◌, ◌^�
 use Rattle.std.proofs.Math.Nat.{pow-suc}
 use Rattle.pch_base.specs.BitLists.{bits_of, word_of}
 
+-- the list of the lowest n bits has n bits
 pub length-bits_of : (n w : ℕ) → length (bits_of n w) ≡ n
 length-bits_of zero w = refl
 length-bits_of (suc n) w = ap suc (length-bits_of n (w / 2))
 
+-- half of a number below twice p is below p
 half_below : (n w p : ℕ) → w < p * 2 → w / 2 < p
 half_below n w p h = omega arith
 

@@ -2,4 +2,3 @@ pub mod BitLists
 pub mod BitWords
 pub mod LitCodes
 pub mod Lits
-pub mod Numbers

@@ -7,10 +7,12 @@ use Rattle.pch_base.specs.Lits.{literal_of}
 pub code-literal_of : (n : ℕ) → code (literal_of n) ≡ n
 code-literal_of n = grind arith
 
+-- the variable of a literal is half of its code
 variable-code : (v : ℕ) (b : Bool) → (2 * v + (if b then 1 else 0)) / 2 ≡ v
 variable-code v true = omega arith
 variable-code v false = omega arith
 
+-- the code of a literal is odd just where the literal is positive
 positive-code : (v : ℕ) (b : Bool) → ((2 * v + (if b then 1 else 0)) % 2 == 1) ≡ b
 positive-code v true = eq-eqb ((2 * v + 1) % 2) 1 (omega arith)
 positive-code v false = ne_eqb ((2 * v + 0) % 2) 1 (λ e. omega arith)

@@ -4,6 +4,7 @@ ghost use Rattle.clause_defs.specs.Clauses.{Has, SameSet, IsOrdered, IsClause};
 
 use crate::lit::Lit;
 use crate::memory::NoMemory;
+use clause_defs::MAX_VARIABLE;
 use std::alloc::Global;
 use std::marker::Model;
 
@@ -69,6 +70,6 @@ pub fn literals_are_within_limits(lits: &[Lit])
     ensures { (l : Literal) → Has lits.now l → IsLiteral l }
 {
     for l in lits {
-        let _variable = l.variable();
+        prove!(l.variable() <= MAX_VARIABLE);
     }
 }

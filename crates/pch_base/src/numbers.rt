@@ -1,6 +1,5 @@
 ghost use Rattle.std.specs.Prelude.{◌≡◌, ◌≤◌, ◌++◌, ℕ, decimal, IfSome, IfNone, OnOk, OnErr};
-ghost use Rattle.text_defs.specs.Numbers.{Spells, number_from, number_in};
-ghost use Rattle.pch_base.specs.Numbers.{at_most};
+ghost use Rattle.text_defs.specs.Numbers.{Spells, number_from, number_in, at_most};
 
 use crate::memory::NoMemory;
 use itoa::Buffer;

@@ -9,9 +9,11 @@ use Rattle.std.specs.declared.alloc.Global.{Global}
 use Rattle.pch_io.specs.Memory.{File, bytes_of, place_of, files_in}
 use Rattle.pch_io.specs.Outside.{Saves}
 
+-- a name is found equal to itself
 same_name : (name : List ℕ) → bytes_eq name name ≡ true
 same_name name = (bytes_eq-Decides name name).1 refl
 
+-- another name is found unequal
 other_name : (name other : List ℕ) → other ≢ name → bytes_eq name other ≡ false
 other_name name other ne =
     elim (cases_Bool (bytes_eq name other)) [
@@ -19,6 +21,7 @@ other_name name other ne =
       | inr differ ↦ differ
     ]
 
+-- a file that was put in place of one with its name has the new bytes
 bytes_of-set_same : (fs : List File) (name bytes : List ℕ) → place_of fs name < length fs
     → bytes_of (set fs (place_of fs name) (record { name = name; bytes = bytes })) name ≡ Some bytes
 bytes_of-set_same [] name bytes within = absurd (omega arith)
@@ -28,6 +31,7 @@ bytes_of-set_same (f ∷ fs) name bytes within =
       | inr differ ↦ rw differ (rw differ (bytes_of-set_same fs name bytes (let w : place_of fs name < length fs = omega (arith, rw differ at within) in w)))
     ]
 
+-- a file that was put in place of one with its name leaves the others as they were
 bytes_of-set_other : (fs : List File) (name bytes other : List ℕ) → place_of fs name < length fs → other ≢ name
     → bytes_of (set fs (place_of fs name) (record { name = name; bytes = bytes })) other ≡ bytes_of fs other
 bytes_of-set_other [] name bytes other within ne = absurd (omega arith)
@@ -40,6 +44,7 @@ bytes_of-set_other (f ∷ fs) name bytes other within ne =
           rw differ (ap (λ found. if bytes_eq f.name other then Some f.bytes else found) (bytes_of-set_other fs name bytes other (omega (arith, rw differ at within)) ne))
     ]
 
+-- a file that was put behind the others, whose name was new, has its bytes
 bytes_of-append_same : (fs : List File) (name bytes : List ℕ) → length fs ≤ place_of fs name
     → bytes_of (fs ++ record { name = name; bytes = bytes } ∷ []) name ≡ Some bytes
 bytes_of-append_same [] name bytes absent = rw (same_name name) refl
@@ -49,6 +54,7 @@ bytes_of-append_same (f ∷ fs) name bytes absent =
       | inr differ ↦ rw differ (bytes_of-append_same fs name bytes (omega (arith, rw differ at absent)))
     ]
 
+-- a file that was put behind the others leaves them as they were
 bytes_of-append_other : (fs : List File) (name bytes other : List ℕ) → other ≢ name
     → bytes_of (fs ++ record { name = name; bytes = bytes } ∷ []) other ≡ bytes_of fs other
 bytes_of-append_other [] name bytes other ne = rw (other_name name other ne) refl

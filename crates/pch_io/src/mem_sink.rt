@@ -27,7 +27,10 @@ impl Model for MemSink {
 impl MemSink {
     /// An empty sink, of which the puts with the listed numbers fail.
     pub fn new(alloc: Global, failing: Vec<u32>) -> MemSink
-        ensures { result ≡ record { bytes = []; calls = record { failing = failing.items; made = 0; faults = 0 } } }
+        ensures { result ≡ record {
+          bytes = [];
+          calls = record { failing = failing.items; made = 0; faults = 0 };
+        } }
     {
         MemSink {
             bytes: Vec::new(alloc),
@@ -51,9 +54,12 @@ impl Sink for MemSink {
     fn put(&mut self, bytes: &[u8]) -> Result<(), PutFail>
         ensures once { CountsOnce self.old.calls.faults self.new.calls.faults }
         ensures calm { OnOk result (self.new.calls.faults ≡ self.old.calls.faults) }
-        ensures appended { OnOk result (Appends (Some self.old.bytes) (Some self.new.bytes) bytes.now) }
-        ensures cut_off { OnErr result (AppendsPrefix (Some self.old.bytes) (Some self.new.bytes) bytes.now) }
-        ensures failed { IsErrOf result PutFail.Failed → Rose self.old.calls.faults self.new.calls.faults }
+        ensures appended { OnOk result
+            (Appends (Some self.old.bytes) (Some self.new.bytes) bytes.now) }
+        ensures cut_off { OnErr result
+            (AppendsPrefix (Some self.old.bytes) (Some self.new.bytes) bytes.now) }
+        ensures failed { IsErrOf result PutFail.Failed
+            → Rose self.old.calls.faults self.new.calls.faults }
         ensures unchanged { OnErr result (self.new.bytes ≡ self.old.bytes) }
         ensures failed_exactly { IsErrOf result PutFail.Failed ↔ FailsNext self.old.calls }
         ensures counted { CountsCall self.old.calls self.new.calls }

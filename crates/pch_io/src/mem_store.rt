@@ -36,7 +36,10 @@ impl MemStore {
         files: Vec<(Name, Vec<u8>)>,
         failing: Vec<u32>,
     ) -> Result<MemStore, NoMemory>
-        ensures { IfOk result (λ s. s ≡ record { files = files_in files.items; calls = record { failing = failing.items; made = 0; faults = 0 } }) }
+        ensures { IfOk result (λ s. s ≡ record {
+          files = files_in files.items;
+          calls = record { failing = failing.items; made = 0; faults = 0 };
+        }) }
     {
         Ok(MemStore {
             files: NamedFiles::new(alloc, files),
@@ -61,7 +64,8 @@ impl Store for MemStore {
         ensures files { self.new.files ≡ self.old.files }
         ensures once { CountsOnce self.old.calls.faults self.new.calls.faults }
         ensures calm { OnOk result (self.new.calls.faults ≡ self.old.calls.faults) }
-        ensures loaded { IfOk result (λ bytes. Loads (Some (bytes_of self.old.files)) name.now max bytes.items) }
+        ensures loaded { IfOk result
+            (λ bytes. Loads (Some (bytes_of self.old.files)) name.now max bytes.items) }
         ensures cause { IfErr result (LoadCause (Some (bytes_of self.old.files)) name.now max
             self.old.calls.faults self.new.calls.faults) }
         ensures failed_exactly { IsErrOf result LoadFail.Failed ↔ FailsNext self.old.calls }
@@ -76,9 +80,12 @@ impl Store for MemStore {
     fn save(&mut self, name: &str, bytes: &[u8]) -> Result<(), SaveFail>
         ensures once { CountsOnce self.old.calls.faults self.new.calls.faults }
         ensures calm { OnOk result (self.new.calls.faults ≡ self.old.calls.faults) }
-        ensures saved { OnOk result (Saves (Some (bytes_of self.old.files)) (Some (bytes_of self.new.files)) name.now bytes.now) }
-        ensures spoiled { OnErr result (Spoils (Some (bytes_of self.old.files)) (Some (bytes_of self.new.files)) name.now) }
-        ensures failed { IsErrOf result SaveFail.Failed → Rose self.old.calls.faults self.new.calls.faults }
+        ensures saved { OnOk result (Saves (Some (bytes_of self.old.files))
+            (Some (bytes_of self.new.files)) name.now bytes.now) }
+        ensures spoiled { OnErr result
+            (Spoils (Some (bytes_of self.old.files)) (Some (bytes_of self.new.files)) name.now) }
+        ensures failed { IsErrOf result SaveFail.Failed
+            → Rose self.old.calls.faults self.new.calls.faults }
         ensures unchanged { OnErr result (self.new.files ≡ self.old.files) }
         ensures failed_exactly { IsErrOf result SaveFail.Failed ↔ FailsNext self.old.calls }
         ensures counted { CountsCall self.old.calls self.new.calls }

@@ -58,9 +58,11 @@ impl NamedFiles {
 
     /// A copy of the bytes of the file with this name, if it isn't longer than the limit.
     pub fn load(&self, alloc: Global, name: &str, max: u64) -> Result<Vec<u8>, LoadFail>
-        ensures loaded { IfOk result (λ bytes. Loads (Some (bytes_of self.now)) name.now max bytes.items) }
+        ensures loaded { IfOk result
+            (λ bytes. Loads (Some (bytes_of self.now)) name.now max bytes.items) }
         ensures absent { IsErrOf result LoadFail.Absent → bytes_of self.now name.now ≡ None }
-        ensures too_long { IsErrOf result LoadFail.TooLong → IsSomeAnd (bytes_of self.now name.now) (λ bytes. max < length bytes) }
+        ensures too_long { IsErrOf result LoadFail.TooLong
+            → IsSomeAnd (bytes_of self.now name.now) (λ bytes. max < length bytes) }
         ensures never_failed { IsErrOf result LoadFail.Failed → ⊥ }
     {
         match self.find(name) {
@@ -72,7 +74,8 @@ impl NamedFiles {
 
     /// Puts these bytes under the name. Without memory the files are as before.
     pub fn put(&mut self, name: &str, bytes: &[u8]) -> Result<(), NoMemory>
-        ensures ok { OnOk result (Saves (Some (bytes_of self.old)) (Some (bytes_of self.new)) name.now bytes.now) }
+        ensures ok { OnOk result (Saves (Some (bytes_of self.old))
+            (Some (bytes_of self.new)) name.now bytes.now) }
         ensures err { OnErr result (self.new ≡ self.old) }
     {
         let stored = Name::from_bytes(self.alloc, name.as_bytes())?;

@@ -84,5 +84,6 @@ pub trait Store {
         ensures calm { OnOk result (faults self.new ≡ faults self.old) }
         ensures saved { OnOk result (Saves (files self.old) (files self.new) name.now bytes.now) }
         ensures spoiled { OnErr result (Spoils (files self.old) (files self.new) name.now) }
-        ensures failed { IsErrOf result SaveFail.Failed → Rose (faults self.old) (faults self.new) };
+        ensures failed { IsErrOf result SaveFail.Failed
+            → Rose (faults self.old) (faults self.new) };
 }

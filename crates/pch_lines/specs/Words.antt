@@ -2,8 +2,7 @@
 use Rattle.std.specs.Prelude.{ℕ, List, [], ◌∷◌, Option, Some, None, String, string_bytes, codes, map, if◌then◌else◌}
 use Rattle.std.specs.Str.{bytes_eq}
 use Rattle.std.specs.declared.alloc.Global.{Global}
-use Rattle.text_defs.specs.Numbers.{number_in, at_least_one}
-use Rattle.pch_base.specs.Numbers.{at_most}
+use Rattle.text_defs.specs.Numbers.{number_in, at_most, at_least_one}
 use Rattle.fabric_defs.specs.declared.kind.CellKind.{CellKind}
 use Rattle.fabric_defs.specs.declared.kind.CellKind.TheVariants.{FourInputs, SixInputs}
 use Rattle.fabric_defs.specs.Geometries.{GeometryValue}

@@ -22,6 +22,7 @@ Keeps-append s q r a b one two rest =
     ∙ ap (λ (text : List ℕ). a ++ text) (two rest)
     ∙ sym (append_assoc a b (uncommented r rest))
 
+-- a byte of a word is no line feed
 no_line_feed : (b : ℕ) → separates b ≡ false → (b == 10) ≡ false
 no_line_feed b h = ne_eqb b 10 (λ e. (let separated : separates b ≡ true = ap separates e in absurd (cc)))
 
@@ -30,12 +31,14 @@ pub Keeps-later : (w : List ℕ) → NoneSeparates separates w → Keeps later l
 Keeps-later [] bytes rest = refl
 Keeps-later (b ∷ bs) bytes rest = rw (no_line_feed b bytes.0) (ap (λ (text : List ℕ). b ∷ text) (Keeps-later bs bytes.1 rest))
 
+-- a word that begins its line begins no comment: its first byte is no letter
 Keeps-first : (w : List ℕ) → IsWord w → Keeps first later w
 Keeps-first [] word = absurd (word.nonempty refl)
 Keeps-first (b ∷ bs) word = λ rest.
     let low : b ≤ 57 = word.first in
     rw (ne_eqb b 99 (λ e. omega arith), no_line_feed b word.bytes.0) (ap (λ (text : List ℕ). b ∷ text) (Keeps-later bs word.bytes.1 rest))
 
+-- the literals of a clause, later in its line, begin no comment
 lits_keep : (cs : Lits) → ((l : Literal) → Has cs l → IsLiteral l) → Keeps later later (flat_map literal_text cs)
 lits_keep [] literals = λ rest. refl
 lits_keep (c ∷ cs) literals = λ rest.
@@ -43,6 +46,7 @@ lits_keep (c ∷ cs) literals = λ rest.
     (Keeps-append later later later (literal_word c) (32 ∷ []) (Keeps-later (literal_word c) (IsWord-literal c (literals c (inl refl))).bytes) (λ r. refl))
     (lits_keep cs (λ l h. literals l (inr h))) rest
 
+-- the line of a clause is no comment
 line_keeps : (c : Lits) → ((l : Literal) → Has c l → IsLiteral l) → Keeps first first (line_of c)
 line_keeps [] literals = λ rest. refl
 line_keeps (c ∷ cs) literals =

@@ -19,15 +19,18 @@ use Rattle.sat_print_laws.proofs.PrintedHeader.{header_tokens, line_of_header, t
 
 -- ---- the clauses
 
+-- the line of a clause has the clause's words
 line_prints : (c : Lits) → IsClause c → Prints (line_of c) (clause_words c)
 line_prints c h =
     Prints-append (flat_map literal_text c) (48 ∷ 10 ∷ []) (map literal_word c) (zero_word ∷ [])
     (Prints-map literal_text literal_word c (λ l k. Prints-blank (literal_word l) (IsWord-literal l (h.literals l k))))
     (Prints-line_feed zero_word IsWord-zero)
 
+-- the lines of the clauses have the clauses' words
 lines_print : (cs : List Lits) → ((c : Lits) → Has cs c → IsClause c) → Prints (flat_map line_of cs) (flat_map clause_words cs)
 lines_print cs h = Prints-flat_map line_of clause_words cs (λ c k. line_prints c (h c k))
 
+-- clauses are spelled as they are printed
 AreSpelled-printed : (v : ℕ) (cs : List Lits) → ((c : Lits) → Has cs c → IsClause c) → EachWithin v cs → AreSpelled v cs cs
 AreSpelled-printed v [] h k = tt
 AreSpelled-printed v (c ∷ cs) h k = (
@@ -37,6 +40,7 @@ AreSpelled-printed v (c ∷ cs) h k = (
 
 -- ---- the header
 
+-- the tokens of the printed header stand before the end of its line
 before_line : (v c : List ℕ) → 0 < length c → (t : Token) → Has (header_tokens v c []) t → t.at < line_of_header v c
 before_line v c some t (inl e) = subst (λ (u : Token). u.at < line_of_header v c) e (omega arith)
 before_line v c some t (inr (inl e)) = subst (λ (u : Token). u.at < line_of_header v c) e (omega arith)
@@ -44,6 +48,7 @@ before_line v c some t (inr (inr (inl e))) = subst (λ (u : Token). u.at < line_
 before_line v c some t (inr (inr (inr (inl e)))) = subst (λ (u : Token). u.at < line_of_header v c) e (omega arith)
 before_line v c some t (inr (inr (inr (inr none)))) = absurd none
 
+-- the tokens of the clauses stand behind the header's line
 behind_line : (line : ℕ) (lines : List ℕ) (t : Token) → Has (tokens separates (line + 1) lines) t → line ≤ t.at
 behind_line line lines t i = omega (arith, tokens_from separates (line + 1) lines t i)
 
@@ -65,6 +70,7 @@ uncommented-text f h =
     (v_keeps (c ++ (10 ∷ lines))
     ∙ ap (λ (text : List ℕ). (v ++ (32 ∷ [])) ++ text) (c_keeps (10 ∷ lines) ∙ ap (λ (text : List ℕ). c ++ (10 ∷ text)) lines_are))
 
+-- the tokens of the printed text spell the formula
 spells : (f : Formula) → IsFormula f → (v c : List ℕ) → v ≡ decimal f.variables → c ≡ decimal (length f.clauses) → 0 < length c
     → SpellsFormula (line_of_header v c) (header_tokens v c (tokens separates (line_of_header v c + 1) (flat_map line_of f.clauses))) f
 spells f h v c v_is c_is some = record {

@@ -10,6 +10,7 @@ use Rattle.sat_print_laws.proofs.PrintedWords.{tokens-word, tokens-blank}
 
 -- ---- the end of a line
 
+-- a word isn't the end of its line
 line_end-word : (at : ℕ) (w rest : List ℕ) → NoneSeparates separates w → line_end at (w ++ rest) ≡ line_end (at + length w) rest
 line_end-word at [] rest bytes = ap (λ (n : ℕ). line_end n rest) (let e : at ≡ at + 0 = omega arith in e)
 line_end-word at (b ∷ bs) rest bytes =

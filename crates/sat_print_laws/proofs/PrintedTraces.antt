@@ -30,9 +30,11 @@ pub record CanPrint (t : List Entry) (e : Entry) : Type 0 where
 
 -- ---- a clause
 
+-- the text of an index has its word
 number_prints : (n : ℕ) → n ≤ MAX_INDEX → Prints (number_text n) (decimal n ∷ [])
 number_prints n h = Prints-blank (decimal n) (IsWord-decimal n (omega arith))
 
+-- the text of the literals with 0, or of the sign, has their words
 stated_prints : (o : Option Lits) → ((l : Literal) → Has (literals_in o) l → IsLiteral l) → Prints (stated_text o) (stated_words o)
 stated_prints None h = Prints-blank sign_word IsWord-sign
 stated_prints (Some ls) h =
@@ -40,6 +42,7 @@ stated_prints (Some ls) h =
     (Prints-map literal_text literal_word ls (λ l k. Prints-blank (literal_word l) (IsWord-literal l (h l k))))
     (Prints-blank zero_word IsWord-zero)
 
+-- the texts of the antecedents' indices have their words
 named_print : (name : ℕ → ℕ) (ps : List ℕ) → ((p : ℕ) → Has ps p → name p ≤ MAX_INDEX) → Prints (flat_map (λ p. number_text (name p)) ps) (map decimal (map name ps))
 named_print name [] h = Prints-nothing
 named_print name (p ∷ ps) h =
@@ -78,6 +81,7 @@ can_print t h e i =
           h.high p (omega arith);
     }
 
+-- the words of all printed clauses are those of each
 flat_map-printed : (t es : List Entry) → flat_map clause_words (printed_all t es) ≡ flat_map (λ e. clause_words (printed t e)) es
 flat_map-printed t [] = refl
 flat_map-printed t (e ∷ es) = ap (λ (ws : List (List ℕ)). clause_words (printed t e) ++ ws) (flat_map-printed t es)
@@ -88,6 +92,7 @@ trace_prints t h =
     let all : Prints (trace_text t) (flat_map (λ e. clause_words (printed t e)) t) = Prints-flat_map (trace_line t) (λ e. clause_words (printed t e)) t (λ e i. line_prints t e (can_print t h e i)) in
     subst (Prints (trace_text t)) (sym (flat_map-printed t t)) all
 
+-- what is stated is the same as itself
 same_stated : (o : Option Lits) → SameStated o o
 same_stated None = tt
 same_stated (Some c) = same_refl c

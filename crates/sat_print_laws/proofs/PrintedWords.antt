@@ -63,12 +63,15 @@ Prints-append p q ws vs h k = record {
       ∙ sym (append_assoc ws vs (words_at (at + length (p ++ q)) rest));
 }
 
+-- a word with a separator is one byte longer
 size_one : (w : List ℕ) (b : ℕ) → length (w ++ b ∷ []) ≡ length w + 1
 size_one w b = length-append w (b ∷ [])
 
+-- a word with a separator is as long as the word needs
 size_room : (w : List ℕ) (b : ℕ) → length (w ++ b ∷ []) ≡ room (w ∷ [])
 size_room w b = omega (arith, size_one w b)
 
+-- behind a word and its separator the next place begins
 place_behind : (at : ℕ) (w : List ℕ) (b : ℕ) → at + length w + 1 ≡ at + length (w ++ b ∷ [])
 place_behind at w b = omega (arith, size_one w b)
 
@@ -100,10 +103,12 @@ Prints-flat_map text words [] h = Prints-nothing
 Prints-flat_map text words (x ∷ xs) h =
     Prints-append (text x) (flat_map text xs) (words x) (flat_map words xs) (h x (inl refl)) (Prints-flat_map text words xs (λ y k. h y (inr k)))
 
+-- at the end of a text no more words come
 words_to_end : (at : ℕ) (ws : List (List ℕ)) → ws ++ words_at at [] ≡ ws
 words_to_end at [] = refl
 words_to_end at (w ∷ ws) = ap (λ (us : List (List ℕ)). w ∷ us) (words_to_end at ws)
 
+-- a piece is the same with nothing behind it
 to_end : (p : List ℕ) → p ≡ p ++ []
 to_end [] = refl
 to_end (b ∷ p) = ap (λ (q : List ℕ). b ∷ q) (to_end p)

@@ -23,10 +23,12 @@ use Rattle.sat_print_laws.proofs.PrintedTraces.{printed, printed_all, at_place, 
 abbrev extra : Bool → ℕ
 extra begins = if begins then 1 else 0
 
+-- a word that is one byte longer needs one byte more
 room-lengthened : (at b n : ℕ) (ts : List Token) → room (words_of ts) ≤ n + 1 → room (words_of (lengthened at b ts)) ≤ n + 2
 room-lengthened at b n [] h = omega arith
 room-lengthened at b n (t ∷ ts) h = omega arith
 
+-- with one more byte in front, separator or not, the words of a text need one byte more at most
 room_if : (separated begins : Bool) (at b n : ℕ) (ts : List Token) → room (words_of ts) ≤ n + extra begins
     → room (words_of (if separated then ts else (if begins then lengthened at b ts else (record { at = at; bytes = b ∷ [] } ∷ ts)))) ≤ n + 1 + extra (not separated)
 room_if true true at b n ts h = omega arith
@@ -34,6 +36,7 @@ room_if true false at b n ts h = omega arith
 room_if false true at b n ts h = omega (arith, room-lengthened at b n ts h)
 room_if false false at b n ts h = omega arith
 
+-- the words of a text need no more bytes than it has, but for a separator behind the last
 room-tokens : (s : ℕ → Bool) (at : ℕ) (text : List ℕ) → room (words_of (tokens s at text)) ≤ length text + extra (begins_with_token s text)
 room-tokens s at [] = omega arith
 room-tokens s at (b ∷ bs) =
@@ -41,6 +44,7 @@ room-tokens s at (b ∷ bs) =
     let same : length bs + 1 ≡ length (b ∷ bs) = omega arith in
     subst (λ (n : ℕ). room (words_of (tokens s at (b ∷ bs))) ≤ n + extra (not (s b))) same rest
 
+-- one byte more is one at most
 at_most_one : (b : Bool) → extra b ≤ 1
 at_most_one true = omega arith
 at_most_one false = omega arith
@@ -51,15 +55,18 @@ room-text text = omega (arith, room-tokens separates 0 text, at_most_one (begins
 
 -- ---- literals
 
+-- how many bytes literals need, each with a separator
 abbrev lits_room : Lits → ℕ
 lits_room ls = room (map literal_word ls)
 
+-- a literal that is put into its place, or was there, needs its own bytes at most
 room_placed : (l m : Literal) (ms : Lits) (before there : Bool) → lits_room (with_literal l ms) ≤ length (literal_word l) + 1 + lits_room ms
     → lits_room (if before then (l ∷ m ∷ ms) else (if there then (m ∷ ms) else (m ∷ with_literal l ms))) ≤ length (literal_word l) + 1 + lits_room (m ∷ ms)
 room_placed l m ms true there h = omega arith
 room_placed l m ms false true h = omega arith
 room_placed l m ms false false h = omega arith
 
+-- a clause with one more literal needs the literal's bytes more at most
 room-with_literal : (l : Literal) (c : Lits) → lits_room (with_literal l c) ≤ length (literal_word l) + 1 + lits_room c
 room-with_literal l [] = omega arith
 room-with_literal l (m ∷ ms) = room_placed l m ms (nat_lt (code l) (code m)) (code l == code m) (room-with_literal l ms)
@@ -75,11 +82,13 @@ room-literals [] h = omega arith
 room-literals (l ∷ ls) h =
     omega (arith, length-word (literal_word l) (IsWord-literal l (h l (inl refl))), room-literals ls (λ m k. h m (inr k)))
 
+-- literals with the 0 behind them need two bytes more
 room-literals_end : (ls : Lits) → room (stated_words (Some ls)) ≡ lits_room ls + 2
 room-literals_end ls = omega (arith, room-append (map literal_word ls) (zero_word ∷ []))
 
 -- ---- clauses
 
+-- a clause needs no more room than the literals that spell it
 room-stated : (o c : Option Lits) → SameStated o c → IsClause (literals_in c) → room (stated_words c) ≤ room (stated_words o)
 room-stated None None h k = omega arith
 room-stated None (Some c) h k = absurd h
@@ -88,17 +97,21 @@ room-stated (Some ls) (Some c) h k =
     let same : c ≡ clause_of ls = clause_of-ordered c ls k.ordered (same_sym ls c h) in
     omega (arith, room-literals_end ls, room-literals_end c, ap lits_room same, room-clause_of ls)
 
+-- the sign needs no more room than literals with the 0 behind them
 room-sign : (o : Option Lits) → room (stated_words None) ≤ room (stated_words o)
 room-sign None = omega arith
 room-sign (Some ls) = omega (arith, room-literals_end ls)
 
+-- how many bytes the antecedents and the 0 behind them need
 behind_stated : Spelled → ℕ
 behind_stated s = room (map decimal s.antecedents ++ (zero_word ∷ []))
 
+-- a clause needs the bytes of its index, of what is stated, and of what is behind that
 room-clause : (s : Spelled) → room (clause_words s) ≡ length (decimal s.index) + 1 + (room (stated_words s.stated) + behind_stated s)
 unfolding behind_stated
 room-clause s = omega (arith, room-append (stated_words s.stated) (map decimal s.antecedents ++ (zero_word ∷ [])))
 
+-- antecedents are printed alike where indices are the same
 same_names : (f g : ℕ → ℕ) (ps : List ℕ) → ((p : ℕ) → f p ≡ g p) → map f ps ≡ map g ps
 same_names f g [] h = refl
 same_names f g (p ∷ ps) h =
@@ -123,6 +136,7 @@ room-less t u s e d same h index antecedents less =
 
 -- ---- what is printed
 
+-- a clause, with the sign in place of its literals or without, needs no more room than was spelled
 room-chosen : (t u : List Entry) (s : Spelled) (e : Entry) (sign : Bool) → ((p : ℕ) → index_at u p ≡ index_at t p) → IsSpelled t s e → IsClause (literals_in e.stated)
     → room (clause_words (printed u (if sign then with_sign e else e))) ≤ room (clause_words s)
 room-chosen t u s e true same h clause = room-less t u s e (with_sign e) same h refl refl (room-sign s.stated)
@@ -132,11 +146,13 @@ room-chosen t u s e false same h clause = room-less t u s e e same h refl refl (
 abbrev AreClauses : List Entry → Type 0
 AreClauses es = (e : Entry) → Has es e → IsClause (literals_in e.stated)
 
+-- the stated literals of a trace are clauses
 clauses_of : (t : List Entry) → IsTrace t → AreClauses t
 clauses_of t h e i =
     let place = at_place t e i in
     subst (λ (ls : Lits). IsClause ls) (ap (λ o. literals_in (stated_of o)) place.2) (h.clauses place.0 place.1)
 
+-- the clauses of a compacted trace need no more room than those that were spelled
 room-compacted : (t u : List Entry) (ss : List Spelled) (es : List Entry) → ((p : ℕ) → index_at u p ≡ index_at t p) → AreSpelled t ss es → AreClauses es
     → room (flat_map clause_words (printed_all u (compacted es))) ≤ room (flat_map clause_words ss)
 room-compacted t u [] [] same h k = omega arith
@@ -152,6 +168,7 @@ room-compacted t u (s ∷ ss) (e ∷ es) same h k =
       room-compacted t u ss es same h.1 (λ d i. k d (inr i)),
     )
 
+-- printed clauses need no more room than those that were spelled
 room-printed : (t : List Entry) (ss : List Spelled) (es : List Entry) → AreSpelled t ss es → AreClauses es
     → room (flat_map clause_words (printed_all t es)) ≤ room (flat_map clause_words ss)
 room-printed t [] [] h k = omega arith
@@ -192,6 +209,7 @@ compacted-short text v t h =
 
 -- ---- how many literals a text states
 
+-- literals need two bytes each
 stated_size : (o c : Option Lits) → SameStated o c → IsClause (literals_in c) → 2 * length (literals_in c) ≤ room (stated_words o)
 stated_size None None h k = omega arith
 stated_size None (Some c) h k = absurd h
@@ -206,14 +224,17 @@ stated_size (Some ls) (Some c) h k =
       room-literals ls (λ l i. k.literals l ((h l).0 i)),
     )
 
+-- a clause counts its literals at most
 derived_most : (derived : Bool) (n : ℕ) → (if derived then n else 0) ≤ n
 derived_most true n = omega arith
 derived_most false n = omega arith
 
+-- the 0 behind the antecedents needs two bytes
 two_behind : (s : Spelled) → 2 ≤ behind_stated s
 unfolding behind_stated
 two_behind s = omega (arith, room-append (map decimal s.antecedents) (zero_word ∷ []))
 
+-- a clause needs two bytes for each literal that counts, and two more
 clause_size : (t : List Entry) (s : Spelled) (e : Entry) → IsSpelled t s e → IsClause (literals_in e.stated) → 2 * derived_size e + 2 ≤ room (clause_words s)
 clause_size t s e h k =
     omega (
@@ -224,6 +245,7 @@ clause_size t s e h k =
       room-clause s,
     )
 
+-- clauses need two bytes for each literal that counts, and two more each
 derived_room : (t : List Entry) (ss : List Spelled) (es : List Entry) → AreSpelled t ss es → AreClauses es → 2 * derived_literals es + 2 * length es ≤ room (flat_map clause_words ss)
 derived_room t [] [] h k = omega arith
 derived_room t [] (e ∷ es) h k = absurd h
@@ -236,6 +258,7 @@ derived_room t (s ∷ ss) (e ∷ es) h k =
       derived_room t ss es h.1 (λ d i. k d (inr i)),
     )
 
+-- where a trace has a clause, its own two bytes make up for the separator behind the last word
 few_derived : (t : List Entry) (n : ℕ) → 2 * derived_literals t + 2 * length t ≤ n + 1 → 2 * derived_literals t ≤ n
 few_derived [] n h = omega arith
 few_derived (e ∷ t) n h = omega arith

@@ -18,14 +18,17 @@ digit_first : (v b n : ℕ) (bs : List ℕ) (t : Bool) → is_ascii_digit b ≡ 
 digit_first v b n bs true e h = let goes_on : number_from v (b ∷ bs) ≡ number_from (10 * v + (b - 48)) bs = rw e refl in (e, sym goes_on ∙ h)
 digit_first v b n bs false e h = let stops : number_from v (b ∷ bs) ≡ None = rw e refl in absurd (cc)
 
+-- a digit is one of the bytes 48 to 57
 digit_bounds : (b : ℕ) → is_ascii_digit b ≡ true → (48 ≤ b) × (b ≤ 57)
 digit_bounds b h = let parts = and_parts (nat_le 48 b) (nat_le b 57) h in (leb-true 48 b parts.0, leb-true b 57 parts.1)
 
+-- a digit separates no words
 digit_no_separator : (b : ℕ) → is_ascii_digit b ≡ true → separates b ≡ false
 digit_no_separator b h =
     let low : 48 ≤ b = (digit_bounds b h).0 in
     rw (ne_eqb b 32 (λ e. omega arith), ne_eqb b 9 (λ e. omega arith), ne_eqb b 13 (λ e. omega arith), ne_eqb b 10 (λ e. omega arith)) refl
 
+-- bytes that are read as digits have no separator
 NoneSeparates-digits : (v n : ℕ) (ds : List ℕ) → number_from v ds ≡ Some n → NoneSeparates separates ds
 NoneSeparates-digits v n [] h = tt
 NoneSeparates-digits v n (b ∷ bs) h =
@@ -50,9 +53,11 @@ pub record IsWord (w : List ℕ) : Type 0 where
   pub first : first_byte w ≤ 57
   pub bytes : NoneSeparates separates w
 
+-- the first of bytes that are read as digits is at most the digit 9
 first_low : (v b n : ℕ) (bs : List ℕ) → number_from v (b ∷ bs) ≡ Some n → b ≤ 57
 first_low v b n bs h = (digit_bounds b (digit_first v b n bs (is_ascii_digit b) refl h).0).1
 
+-- bytes that are read as a number are a word
 IsWord-number : (n : ℕ) (w : List ℕ) → number_in w ≡ Some n → IsWord w
 IsWord-number n [] h = absurd (cc)
 IsWord-number n (b ∷ []) h = record { nonempty = λ e. absurd (cc); first = first_low 0 b n [] h; bytes = NoneSeparates-digits 0 n (b ∷ []) h }
@@ -64,6 +69,7 @@ IsWord-number n (b ∷ c ∷ bs) h =
 pub IsWord-decimal : (n : ℕ) → n < 2 ^ 64 → IsWord (decimal n)
 IsWord-decimal n small = IsWord-number n (decimal n) (number_in-spelled (decimal n) n small refl)
 
+-- a literal within the limits, of either sign, is a word
 word_by_sign : (s : Bool) (v : ℕ) → v ≤ MAX_VARIABLE → IsWord (literal_word (literal s v))
 word_by_sign true v high = IsWord-decimal v (omega arith)
 word_by_sign false v high = record { nonempty = λ e. absurd (cc); first = omega arith; bytes = (refl, (IsWord-decimal v (omega arith)).bytes) }

@@ -11,6 +11,7 @@ use Rattle.sat_text_defs.specs.Spellings.{is_zero}
 use Rattle.sat_scan.specs.Scan.{word, word_at}
 use Rattle.sat_scan.proofs.ScanLemmas.{word-byte}
 
+-- a digit doesn't end a word
 digit_inner : (b : ℕ) → 48 ≤ b → b ≤ 57 → separates b ≡ false
 digit_inner b low high =
     rw (ne_eqb b 32 (λ e. omega arith), ne_eqb b 9 (λ e. omega arith), ne_eqb b 13 (λ e. omega arith), ne_eqb b 10 (λ e. omega arith)) refl
@@ -46,6 +47,7 @@ pub last_digit : (max n at : ℕ) (text : List ℕ) (b : ℕ) → at < length te
 last_digit max n at text b h e low high far =
     ap (at_most max) (next_digit max n at text b h e low high) ∙ at_most-above max (10 * n + (b - 48)) (word_at (at + 1) text) far
 
+-- a number that isn't 0 passes the test for at least one
 nonzero : (o : Option ℕ) → (o ≡ Some 0 → ⊥) → o ≡ at_least_one o
 nonzero None h = refl
 nonzero (Some zero) h = absurd (h refl)

@@ -13,6 +13,7 @@ word (b ∷ bs) = if separates b then [] else (b ∷ word bs)
 abbrev pub word_at : ℕ → List ℕ → List ℕ
 word_at at text = word (drop at text)
 
+-- the word that begins at this place, with the place
 abbrev pub token_at : ℕ → List ℕ → Token
 token_at at text = record { at = at; bytes = word_at at text }
 

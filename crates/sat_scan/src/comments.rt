@@ -12,7 +12,8 @@ pub fn behind_comment(text: &[u8], at: usize) -> usize
     requires { at ≤ length text.now }
     ensures not_before { at ≤ result }
     ensures within { result ≤ length text.now }
-    ensures skipped { tokens separates at (uncommented first (drop at text.now)) ≡ cnf_tokens_from result text.now }
+    ensures skipped { tokens separates at (uncommented first (drop at text.now))
+        ≡ cnf_tokens_from result text.now }
 {
     if at == text.len() || text[at] != b'c' {
         return at;

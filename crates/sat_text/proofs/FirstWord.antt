@@ -7,6 +7,7 @@ use Rattle.sat_text_defs.specs.CnfText.{tokens_of, line_end, header_end}
 use Rattle.sat_text_defs.specs.CnfReading.{cnf_from, cnf_in}
 use Rattle.sat_scan.specs.Scan.{cnf_tokens_from, IsAtCnfWord}
 
+-- the line of the header ends where the line of its first word does
 header_end-here : (at : ℕ) (text : List ℕ) → IsAtCnfWord at text → header_end text (cnf_tokens_from at text) ≡ line_end at (drop at text)
 header_end-here at text stands = elim (cases_lt at (length text)) [
   | inl h ↦ ap (header_end text) (stands.word h)

@@ -5,11 +5,13 @@ use Rattle.clause_defs.specs.Traces.{Entry, index_at, place_of}
 use Rattle.sat_text_defs.specs.TraceReading.{places_from, indices_of}
 use Rattle.trace_places.proofs.PlaceLemmas.{place_of-none, places_from-below}
 
+-- the index of clause k is number k of the indices
 index_at-indices : (t : List Entry) (k : ℕ) → index_at t k ≡ get_or (indices_of t) k 0
 index_at-indices [] k = refl
 index_at-indices (e ∷ es) zero = refl
 index_at-indices (e ∷ es) (suc k) = index_at-indices es k
 
+-- there are as many indices as clauses
 length-indices : (t : List Entry) → length (indices_of t) ≡ length t
 length-indices [] = refl
 length-indices (e ∷ es) = ap suc (length-indices es)

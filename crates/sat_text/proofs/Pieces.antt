@@ -6,6 +6,7 @@ use Rattle.clause_defs.specs.Clauses.{Has, Lits}
 use Rattle.clause_defs.specs.Traces.{Entry, index_at, stated_at, antecedents_at, index_of, stated_of, antecedents_of}
 use Rattle.sat_text_defs.specs.Printed.{trace_line, entry_text, line_of}
 
+-- what was printed with one more element's text, and the texts of the rest, are the whole
 piece : {X : Type 0} (f : X → List ℕ) (xs rest : List X) (x : X) (out next whole : List ℕ) → xs ≡ x ∷ rest → next ≡ out ++ f x
     → out ++ flat_map f xs ≡ whole → next ++ flat_map f rest ≡ whole
 piece f xs rest x out next whole e n h =

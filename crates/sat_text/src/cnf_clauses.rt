@@ -14,7 +14,8 @@ use std::alloc::Global;
 fn read_literal(text: &[u8], at: usize, variables: u32) -> Result<LitWord, CnfError>
     requires within { at < length text.now }
     requires short { length text.now ≤ MAX_CNF_BYTES }
-    ensures exact { Gives NoMemory (λ w. w.lit) result (literal_within variables (token_at at text.now)) }
+    ensures exact { Gives NoMemory (λ w. w.lit) result
+        (literal_within variables (token_at at text.now)) }
     ensures end { IfOk result (λ w. w.end ≡ behind_word_at at text.now) }
     ensures within { IfOk result (λ w. w.end ≤ length text.now) }
     ensures later { IfOk result (λ w. at < w.end) }
@@ -38,7 +39,8 @@ pub fn read_clauses(
 ) -> Result<(), CnfError>
     requires within { from ≤ length text.now }
     requires short { length text.now ≤ MAX_CNF_BYTES }
-    ensures exact { Gives NoMemory (λ _. clauses.new) result (clauses_from variables (length text.now) (cnf_tokens_from from text.now) clauses.old []) }
+    ensures exact { Gives NoMemory (λ _. clauses.new) result
+        (clauses_from variables (length text.now) (cnf_tokens_from from text.now) clauses.old []) }
 {
     let mut lits = Vec::new(alloc);
     let mut at = next_cnf_word(text, from);

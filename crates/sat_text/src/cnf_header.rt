@@ -46,7 +46,8 @@ fn number_on_line(text: &[u8], at: usize, line: usize, max: u32) -> Result<(u32,
     requires stands { IsAtCnfWord at text.now }
     requires short { length text.now ≤ MAX_CNF_BYTES }
     requires digits { 9 ≤ max }
-    ensures exact { Gives NoMemory (λ n. (n.0, cnf_tokens_from n.1 text.now)) result (number_before (length text.now) line max (cnf_tokens_from at text.now)) }
+    ensures exact { Gives NoMemory (λ n. (n.0, cnf_tokens_from n.1 text.now)) result
+        (number_before (length text.now) line max (cnf_tokens_from at text.now)) }
     ensures stands { IfOk result (λ n. IsAtCnfWord n.1 text.now) }
 {
     if at >= line {
@@ -70,7 +71,9 @@ pub struct HeaderEnd {
 pub fn read_header(text: &[u8], at: usize) -> Result<HeaderEnd, CnfError>
     requires stands { IsAtCnfWord at text.now }
     requires short { length text.now ≤ MAX_CNF_BYTES }
-    ensures exact { Gives NoMemory (λ h. header_at h text.now) result (header_in (length text.now) (line_end at (drop at text.now)) (cnf_tokens_from at text.now)) }
+    ensures exact { Gives NoMemory (λ h. header_at h text.now) result
+        (header_in (length text.now) (line_end at (drop at text.now))
+        (cnf_tokens_from at text.now)) }
     ensures within { IfOk result (λ h. h.rest ≤ length text.now) }
 {
     let line = end_of_line(text, at);

@@ -25,7 +25,9 @@ fn first_word(text: &[u8]) -> usize
 fn read_from(alloc: Global, text: &[u8], first: usize) -> Result<Cnf, CnfError>
     requires stands { IsAtCnfWord first text.now }
     requires short { length text.now ≤ MAX_CNF_BYTES }
-    ensures exact { Gives NoMemory formula_of result (cnf_from (length text.now) (line_end first (drop first text.now)) (cnf_tokens_from first text.now)) }
+    ensures exact { Gives NoMemory formula_of result
+        (cnf_from (length text.now) (line_end first (drop first text.now))
+        (cnf_tokens_from first text.now)) }
 {
     let header = read_header(text, first)?;
     let mut clauses = Clauses::new(alloc);

@@ -38,7 +38,8 @@ pub fn print_trace(alloc: Global, t: &Trace) -> Result<Vec<u8>, NoMemory>
 
 fn print_entry(t: &Trace, k: u32, out: &mut Vec<u8>) -> Result<(), NoMemory>
     requires { k < length t.now }
-    ensures { OnOk result (out.new.items ≡ out.old.items ++ entry_text t.now (index_at t.now k) (stated_at t.now k) (antecedents_at t.now k)) }
+    ensures { OnOk result (out.new.items ≡ out.old.items
+        ++ entry_text t.now (index_at t.now k) (stated_at t.now k) (antecedents_at t.now k)) }
 {
     print_number_text(t.index(k), out)?;
     print_stated(t, k, out)?;
@@ -62,7 +63,8 @@ fn print_stated(t: &Trace, k: u32, out: &mut Vec<u8>) -> Result<(), NoMemory>
 
 fn print_antecedents(t: &Trace, antecedents: &[u32], out: &mut Vec<u8>) -> Result<(), NoMemory>
     requires { (p : ℕ) → Has antecedents.now p → p < length t.now }
-    ensures { OnOk result (out.new.items ≡ out.old.items ++ flat_map (λ p. number_text (index_at t.now p)) antecedents.now) }
+    ensures { OnOk result (out.new.items
+        ≡ out.old.items ++ flat_map (λ p. number_text (index_at t.now p)) antecedents.now) }
 {
     for place in antecedents {
         print_number_text(t.index(*place), out)?;

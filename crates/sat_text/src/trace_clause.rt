@@ -48,7 +48,8 @@ fn index_at(text: &[u8], at: usize) -> Result<Number, TraceError>
 fn stated_literal_at(text: &[u8], at: usize) -> Result<LitWord, TraceError>
     requires within { at ≤ length text.now }
     requires short { length text.now ≤ MAX_TRACE_BYTES }
-    ensures exact { Gives NoMemory (λ w. w.lit) result (ok_or (literal_in (word_at at text.now)) (Syntax at)) }
+    ensures exact { Gives NoMemory (λ w. w.lit) result
+        (ok_or (literal_in (word_at at text.now)) (Syntax at)) }
     ensures end { IfOk result (λ w. w.end ≡ behind_word_at at text.now) }
     ensures inside { IfOk result (λ w. w.end ≤ length text.now) }
     ensures there { IfOk result (λ w. at < w.end) }
@@ -63,7 +64,8 @@ fn stated_literal_at(text: &[u8], at: usize) -> Result<LitWord, TraceError>
 fn read_literals(text: &[u8], first: usize, lits: &mut Vec<Lit>) -> Result<usize, TraceError>
     requires stands { IsAtWord first text.now }
     requires short { length text.now ≤ MAX_TRACE_BYTES }
-    ensures leads { (v i : ℕ) → LeadsTo v text.now first (among_lits i lits.old.items) (among_antecedents i (Some lits.new.items) []) result }
+    ensures leads { (v i : ℕ) → LeadsTo v text.now first (among_lits i lits.old.items)
+        (among_antecedents i (Some lits.new.items) []) result }
     ensures later { IfOk result (λ next. first < next) }
     ensures inside { IfOk result (λ next. next ≤ length text.now) }
 {
@@ -80,7 +82,9 @@ fn read_literals(text: &[u8], first: usize, lits: &mut Vec<Lit>) -> Result<usize
 fn read_indices(text: &[u8], from: usize, indices: &mut Vec<u32>) -> Result<usize, TraceError>
     requires within { from ≤ length text.now }
     requires short { length text.now ≤ MAX_TRACE_BYTES }
-    ensures leads { (v i : ℕ) (stated : Option Lits) → LeadsTo v text.now from (among_antecedents i stated indices.old.items) (among_antecedents i stated indices.new.items) result }
+    ensures leads { (v i : ℕ) (stated : Option Lits) → LeadsTo v text.now from
+        (among_antecedents i stated indices.old.items)
+        (among_antecedents i stated indices.new.items) result }
     ensures zero { IfOk result (λ at. is_zero (word_at at text.now) ≡ true) }
     ensures stands { IfOk result (λ at. IsAtWord at text.now) }
     ensures not_before { IfOk result (λ at. from ≤ at) }
@@ -118,8 +122,11 @@ fn read_stated(
     requires short { length text.now ≤ MAX_TRACE_BYTES }
     requires no_lits { clause.old.lits.items ≡ [] }
     requires no_antecedents { clause.old.antecedents.items ≡ [] }
-    ensures leads { (i : ℕ) → LeadsTo version text.now from (behind_index i) (among_antecedents i (stated_unless clause.new.sign clause.new.lits.items) clause.new.antecedents.items) result }
-    ensures derived { IfOk result (λ _. clause.new.sign ≡ true → 0 < length clause.new.antecedents.items) }
+    ensures leads { (i : ℕ) → LeadsTo version text.now from (behind_index i)
+        (among_antecedents i (stated_unless clause.new.sign clause.new.lits.items)
+        clause.new.antecedents.items) result }
+    ensures derived { IfOk result
+        (λ _. clause.new.sign ≡ true → 0 < length clause.new.antecedents.items) }
     ensures index { clause.new.index ≡ clause.old.index }
     ensures not_before { IfOk result (λ next. from ≤ next) }
     ensures inside { IfOk result (λ next. next ≤ length text.now) }
@@ -147,7 +154,8 @@ pub fn read_clause(
     requires short { length text.now ≤ MAX_TRACE_BYTES }
     ensures reads { ReadsClause version text.now at (spelled_of clause.new) result }
     ensures index { IfOk result (λ _. (1 ≤ clause.new.index) × (clause.new.index ≤ MAX_INDEX)) }
-    ensures derived { IfOk result (λ _. clause.new.sign ≡ true → 0 < length clause.new.antecedents.items) }
+    ensures derived { IfOk result
+        (λ _. clause.new.sign ≡ true → 0 < length clause.new.antecedents.items) }
     ensures later { IfOk result (λ next. at < next) }
     ensures inside { IfOk result (λ next. next ≤ length text.now) }
 {

@@ -41,7 +41,8 @@ fn push_clause(
     requires other { (k : ℕ) → k < length trace.old → index_at trace.old k ≢ clause.old.index }
     requires derived { clause.old.sign ≡ true → antecedents.now ≢ [] }
     requires earlier { (p : ℕ) → Has antecedents.now p → p < length trace.old }
-    ensures pushed { OnOk result (trace.new ≡ trace.old ++ entry_of (spelled_of clause.old) antecedents.now ∷ []) }
+    ensures pushed { OnOk result
+        (trace.new ≡ trace.old ++ entry_of (spelled_of clause.old) antecedents.now ∷ []) }
     ensures index { clause.new.index ≡ clause.old.index }
 {
     if clause.sign {
@@ -81,7 +82,8 @@ impl Reading {
         requires low { 1 ≤ clause.old.index }
         requires high { clause.old.index ≤ MAX_INDEX }
         requires derived { clause.old.sign ≡ true → 0 < length clause.old.antecedents.items }
-        ensures exact { Gives errors.NoMemory (λ _. self.new.trace) result (judged self.old.trace (spelled_of clause.old)) }
+        ensures exact { Gives errors.NoMemory (λ _. self.new.trace) result
+            (judged self.old.trace (spelled_of clause.old)) }
         ensures places { IfOk result (λ _. self.new.places ≡ indices_of self.new.trace) }
     {
         if self.places.place(clause.index).is_some() {
@@ -106,8 +108,10 @@ impl Reading {
         requires high { clause.old.index ≤ MAX_INDEX }
         requires derived { clause.old.sign ≡ true → 0 < length clause.old.antecedents.items }
         requires other { place_of self.old.places clause.old.index ≡ None }
-        requires found { places_from self.old.places [] clause.old.antecedents.items ≡ Ok self.old.found.items }
-        ensures exact { Gives errors.NoMemory (λ _. self.new.trace) result (with_places self.old.trace (spelled_of clause.old) (Ok self.old.found.items)) }
+        requires found { places_from self.old.places [] clause.old.antecedents.items
+            ≡ Ok self.old.found.items }
+        ensures exact { Gives errors.NoMemory (λ _. self.new.trace) result
+            (with_places self.old.trace (spelled_of clause.old) (Ok self.old.found.items)) }
         ensures places { IfOk result (λ _. self.new.places ≡ indices_of self.new.trace) }
     {
         push_clause(&mut self.trace, clause, &self.found)?;

@@ -11,9 +11,11 @@ use Rattle.sat_text_defs.specs.TraceReading.{Part, start, Next, goes_on, is_whol
 abbrev behind : ℕ → ℕ → List Token → List Entry → Next → Result (List Entry) TraceError
 behind v end ws t n = taken t n >>= λ r. trace_from v end ws r.0 r.1
 
+-- behind a whole clause nothing of the next one was read
 abbrev at_start : List Entry → List Entry × Part
 at_start u = (u, start)
 
+-- reading on behind a judged clause is reading on with the trace that it left, at the start of a clause
 closed : (v end : ℕ) (ws : List Token) (r : Result (List Entry) TraceError)
     → ((r >>= λ u. Ok (at_start u)) >>= λ q. trace_from v end ws q.0 q.1) ≡ (r >>= λ u. trace_from v end ws u start)
 closed v end ws (Ok u) = refl

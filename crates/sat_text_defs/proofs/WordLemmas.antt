@@ -10,6 +10,7 @@ use Rattle.sat_text_defs.specs.Spellings.{is_byte, is_zero, is_sign, index_in, l
 
 -- ---- the words `0` and `*`
 
+-- a word that passes the test for one byte is that byte alone
 is_byte-word : (byte : ℕ) (w : List ℕ) → is_byte byte w ≡ true → w ≡ byte ∷ []
 is_byte-word byte [] h = absurd (cc)
 is_byte-word byte (b ∷ []) h = let first : b ≡ byte = eqb-true b byte h in cc
@@ -49,6 +50,7 @@ word_index w n h = spelled-positive_within MAX_INDEX n w (omega arith) h.0 h.1 h
 pub no_index : (w : List ℕ) → index_in w ≡ None → IsIndexWord w → ⊥
 no_index w e h = let some : index_in w ≡ Some h.0 = word_index w h.0 h.1 in absurd (cc)
 
+-- the word 0 is no index
 index_zero : index_in zero_word ≡ None
 index_zero = positive_within-other MAX_INDEX 48 [] (inl (omega arith))
 
@@ -61,10 +63,12 @@ index_nonzero w n h = elim (cases_Bool (is_zero w)) [
 
 -- ---- literals
 
+-- a mapped number comes from a number
 option_map-some : {X Y : Type 0} (g : X → Y) (o : Option X) (y : Y) → option_map g o ≡ Some y → (x : X) × (o ≡ Some x) × (g x ≡ y)
 option_map-some g None y h = absurd (cc)
 option_map-some g (Some x) y h = (x, refl, cc)
 
+-- a word that is read as a literal spells it, with the minus sign or without
 literal_from : (b : ℕ) (bs : List ℕ) (l : Literal) (t : Bool) → (b == 45) ≡ t → literal_in (b ∷ bs) ≡ Some l → SpellsLiteral (b ∷ bs) l
 literal_from b bs l true e h =
     let computes : literal_in (b ∷ bs) ≡ option_map (literal false) (positive_within MAX_VARIABLE bs) = rw e refl in
@@ -85,6 +89,7 @@ pub literal_in-word : (w : List ℕ) (l : Literal) → literal_in w ≡ Some l �
 literal_in-word [] l h = absurd (cc)
 literal_in-word (b ∷ bs) l h = literal_from b bs l (b == 45) refl h
 
+-- a word that is read as a positive number doesn't begin with the minus sign
 unsigned : (b : ℕ) (bs : List ℕ) (n : ℕ) → positive_within MAX_VARIABLE (b ∷ bs) ≡ Some n → (b == 45) ≡ false
 unsigned b bs n h = elim (cases_Bool (b == 45)) [
   | inl e ↦
@@ -93,10 +98,12 @@ unsigned b bs n h = elim (cases_Bool (b == 45)) [
   | inr e ↦ e
 ]
 
+-- a positive number up to the greatest variable is read as that variable
 positive_literal : (w : List ℕ) (n : ℕ) → positive_within MAX_VARIABLE w ≡ Some n → literal_in w ≡ Some (literal true n)
 positive_literal [] n h = absurd (cc)
 positive_literal (b ∷ bs) n h = rw (unsigned b bs n h) (ap (option_map (literal true)) h)
 
+-- the word of a literal within the limits is read as that literal
 signed_literal : (p : Bool) (n : ℕ) → 1 ≤ n → n ≤ MAX_VARIABLE → literal_in (literal_word (literal p n)) ≡ Some (literal p n)
 signed_literal true n low high = positive_literal (decimal n) n (spelled-positive_within MAX_VARIABLE n (decimal n) (omega arith) refl low high)
 signed_literal false n low high = ap (option_map (literal false)) (spelled-positive_within MAX_VARIABLE n (decimal n) (omega arith) refl low high)
@@ -109,6 +116,7 @@ word_literal w l h = ap literal_in h.1 ∙ signed_literal l.positive l.variable 
 pub no_literal : (w : List ℕ) → literal_in w ≡ None → IsLiteralWord w → ⊥
 no_literal w e h = let some : literal_in w ≡ Some h.0 = word_literal w h.0 h.1 in absurd (cc)
 
+-- a byte below the digits 1 to 9 that isn't the minus sign is no literal
 other_byte : (b : ℕ) → (b == 45) ≡ false → (b ≤ 48) → literal_in (b ∷ []) ≡ None
 other_byte b e low = rw e (ap (option_map (literal true)) (positive_within-other MAX_VARIABLE b [] (inl low)))
 

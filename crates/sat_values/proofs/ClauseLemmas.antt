@@ -19,6 +19,7 @@ place_of_member [] x h = absurd h
 place_of_member (y ∷ ys) x (inl e) = (0, omega arith, ap Some e)
 place_of_member (y ∷ ys) x (inr h) = let rest = place_of_member ys x h in (suc rest.0, omega (arith, rest.1), rest.2)
 
+-- a list of clauses with one more ordered list of literals is a list of clauses, while there are few enough
 pub AreClauses-push : (f : List Lits) (c : Lits) → AreClauses f → IsOrdered c → ((l : Literal) → Has c l → IsLiteral l)
     → length f < MAX_CLAUSES → AreClauses (f ++ c ∷ [])
 AreClauses-push f c h ordered literals few = record {

@@ -9,13 +9,16 @@ use Rattle.clause_defs.specs.Traces.{Entry, IsTrace, IsCompactAt, literals_in, s
 use Rattle.sat_values.specs.TraceArrays.{stated_unless, entries_of, stated_lits, greatest_of, greatest_variable, AreTrace}
 use Rattle.clause_laws.proofs.TraceLemmas.{CanFollow, IsTrace-push}
 
+-- the entry that the columns hold in one place: index, sign, literals, antecedents
 abbrev pub entry : ℕ → Bool → Lits → List ℕ → Entry
 entry i sign l a = record { index = i; stated = stated_unless sign l; antecedents = a }
 
+-- the signs behind the first one are those of the later clauses
 behind_first : (signs : List Bool) (k : ℕ) → get_or (drop 1 signs) k false ≡ get_or signs (suc k) false
 behind_first [] k = refl
 behind_first (b ∷ bs) k = refl
 
+-- there are as many entries as indices
 pub length-entries_of : (is : List ℕ) (ls : List Lits) (ants : List (List ℕ)) (signs : List Bool) → length ls ≡ length is → length ants ≡ length is
     → length (entries_of is ls ants signs) ≡ length is
 length-entries_of [] ls ants signs p q = refl
@@ -23,6 +26,7 @@ length-entries_of (i ∷ is) [] ants signs p q = absurd (omega arith)
 length-entries_of (i ∷ is) (l ∷ ls) [] signs p q = absurd (omega arith)
 length-entries_of (i ∷ is) (l ∷ ls) (a ∷ ants) signs p q = ap suc (length-entries_of is ls ants (drop 1 signs) (omega arith) (omega arith))
 
+-- entry k has index k
 pub index_at-entries_of : (is : List ℕ) (ls : List Lits) (ants : List (List ℕ)) (signs : List Bool) (k : ℕ) → length ls ≡ length is → length ants ≡ length is
     → k < length is → index_at (entries_of is ls ants signs) k ≡ get_or is k 0
 index_at-entries_of [] ls ants signs k p q lt = absurd (omega arith)
@@ -31,6 +35,7 @@ index_at-entries_of (i ∷ is) (l ∷ ls) [] signs k p q lt = absurd (omega arit
 index_at-entries_of (i ∷ is) (l ∷ ls) (a ∷ ants) signs zero p q lt = refl
 index_at-entries_of (i ∷ is) (l ∷ ls) (a ∷ ants) signs (suc k) p q lt = index_at-entries_of is ls ants (drop 1 signs) k (omega arith) (omega arith) (omega arith)
 
+-- entry k has the antecedents at place k
 pub antecedents_at-entries_of : (is : List ℕ) (ls : List Lits) (ants : List (List ℕ)) (signs : List Bool) (k : ℕ) (ps : List ℕ) → length ls ≡ length is → length ants ≡ length is
     → slice_get ants k ≡ Some ps → antecedents_at (entries_of is ls ants signs) k ≡ ps
 antecedents_at-entries_of is ls [] signs k ps p q e = absurd (cc)
@@ -50,6 +55,7 @@ stated_at-entries_of (i ∷ is) (l ∷ ls) (a ∷ ants) signs (suc k) p q lt =
     stated_at-entries_of is ls ants (drop 1 signs) k (omega arith) (omega arith) (omega arith)
     ∙ ap (λ b. stated_unless b (get_or ls k [])) (behind_first signs k)
 
+-- the literals aren't stated just where the sign stands
 none_at_sign : (b : Bool) (c : Lits) → IsTrue b ↔ (stated_unless b c ≡ None)
 none_at_sign true c = (λ t. refl, λ e. refl)
 none_at_sign false c = (λ f. absurd (cc), λ e. absurd (cc))
@@ -61,6 +67,7 @@ IsCompactAt-entries_of is ls ants signs k p q lt =
     subst (λ (o : Option Lits). IsTrue (get_or signs k false) ↔ (o ≡ None)) (sym (stated_at-entries_of is ls ants signs k p q lt))
     (none_at_sign (get_or signs k false) (get_or ls k []))
 
+-- the literals that are kept for a place are those that its entry states
 lits_at_mapped : (o : Option Entry) (c : Lits) → option_map stated_lits o ≡ Some c → literals_in (stated_of o) ≡ c
 lits_at_mapped None c e = absurd (cc)
 lits_at_mapped (Some x) c e = cc
@@ -82,6 +89,7 @@ entries_of-same_signs (i ∷ is) (l ∷ ls) (a ∷ ants) signs other same =
     let first = same 0 (omega arith) in
     ap (λ b. entry i b l a ∷ entries_of is ls ants (drop 1 other)) first ∙ ap (λ es. entry i (get_or signs 0 false) l a ∷ es) rest
 
+-- one more in each column is one more entry
 pub entries_of-push : (is : List ℕ) (ls : List Lits) (ants : List (List ℕ)) (signs : List Bool) (i : ℕ) (l : Lits) (a : List ℕ) → length ls ≡ length is → length ants ≡ length is
     → entries_of (is ++ i ∷ []) (ls ++ l ∷ []) (ants ++ a ∷ []) signs ≡ entries_of is ls ants signs ++ entry i (get_or signs (length is) false) l a ∷ []
 entries_of-push [] [] [] signs i l a p q = refl
@@ -96,6 +104,7 @@ entries_of-push (j ∷ is) (m ∷ ls) (b ∷ ants) signs i l a p q =
 
 -- ---- one more clause
 
+-- with one more clause the greatest variable is the greater of the earlier one and the clause's
 pub greatest_variable-push : (t : List Entry) (e : Entry) → greatest_variable (t ++ e ∷ []) ≡ max (greatest_variable t) (greatest_of (stated_lits e))
 greatest_variable-push [] e = omega arith
 greatest_variable-push (f ∷ t) e = omega (arith, greatest_variable-push t e)
@@ -178,11 +187,13 @@ take-pushed xs ys zs x e f =
 
 -- ---- the greatest variable
 
+-- no literal of a clause has a greater variable than its greatest
 greatest_of-within : (c : Lits) (l : Literal) → Has c l → l.variable ≤ greatest_of c
 greatest_of-within [] l h = absurd h
 greatest_of-within (m ∷ ms) l (inl e) = let same : m.variable ≡ l.variable = ap (λ (x : Literal). x.variable) e in omega arith
 greatest_of-within (m ∷ ms) l (inr h) = omega (arith, greatest_of-within ms l h)
 
+-- no stated literal of the trace has a greater variable than its greatest
 pub greatest_variable-within : (t : List Entry) (k : ℕ) (l : Literal) → Has (lits_at t k) l → l.variable ≤ greatest_variable t
 greatest_variable-within [] k l h = absurd h
 greatest_variable-within (e ∷ es) zero l h = omega (arith, greatest_of-within (stated_lits e) l h)

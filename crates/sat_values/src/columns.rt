@@ -30,13 +30,16 @@ impl Columns {
     /// Appends a clause. After `NoMemory` the lists are as before.
     pub fn push(&mut self, index: u32, lits: &[Lit], antecedents: &[u32]) -> Result<(), NoMemory>
         requires { length self.old.antecedents.lists ≡ length self.old.lits.lists }
-        ensures indices { OnOk result (self.new.indices.items ≡ self.old.indices.items ++ index ∷ []) }
+        ensures indices { OnOk result
+            (self.new.indices.items ≡ self.old.indices.items ++ index ∷ []) }
         ensures lits { OnOk result (self.new.lits.lists ≡ self.old.lits.lists ++ lits.now ∷ []) }
-        ensures antecedents { OnOk result (self.new.antecedents.lists ≡ self.old.antecedents.lists ++ antecedents.now ∷ []) }
+        ensures antecedents { OnOk result
+            (self.new.antecedents.lists ≡ self.old.antecedents.lists ++ antecedents.now ∷ []) }
         ensures few { OnOk result (length self.old.lits.lists < MAX_CLAUSES) }
         ensures same_indices { OnErr result (self.new.indices.items ≡ self.old.indices.items) }
         ensures same_lits { OnErr result (self.new.lits.lists ≡ self.old.lits.lists) }
-        ensures same_antecedents { OnErr result (self.new.antecedents.lists ≡ self.old.antecedents.lists) }
+        ensures same_antecedents { OnErr result
+            (self.new.antecedents.lists ≡ self.old.antecedents.lists) }
     {
         let literals = u64::from(self.lits.total()) + lits.len() as u64;
         let places = u64::from(self.antecedents.total()) + antecedents.len() as u64;

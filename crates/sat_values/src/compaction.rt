@@ -37,7 +37,8 @@ fn behind_last_derived(t: &Trace) -> u32
 fn takes_sign(t: &Trace, k: u32, last: u32) -> bool
     requires within { k < length t.now }
     requires last { (j : ℕ) → any_derived (drop j t.now) ≡ nat_lt j last }
-    ensures copy { compacted (drop k t.now) ≡ copy_at t.now k result ∷ compacted (drop (k + 1) t.now) }
+    ensures copy { compacted (drop k t.now)
+        ≡ copy_at t.now k result ∷ compacted (drop (k + 1) t.now) }
     ensures derived { result ≡ true → antecedents_at t.now k ≢ [] }
 {
     if t.is_compact(k) {

@@ -31,9 +31,11 @@ impl Model for Trace {
 
     ghost Value = { List Entry };
 
-    ghost view = { λ t. entries_of t.columns.indices.items t.columns.lits.lists t.columns.antecedents.lists t.signs.items };
+    ghost view = { λ t. entries_of t.columns.indices.items t.columns.lits.lists
+        t.columns.antecedents.lists t.signs.items };
 
-    ghost invariant = { λ t. AreTrace t.columns.indices.items t.columns.lits.lists t.columns.antecedents.lists t.signs.items t.greatest };
+    ghost invariant = { λ t. AreTrace t.columns.indices.items t.columns.lits.lists
+        t.columns.antecedents.lists t.signs.items t.greatest };
 }
 
 impl Trace {
@@ -114,7 +116,11 @@ impl Trace {
         requires other { (k : ℕ) → k < length self.old → index_at self.old k ≢ index }
         requires ordered { IsOrdered lits.now }
         requires earlier { (p : ℕ) → Has antecedents.now p → p < length self.old }
-        ensures ok { OnOk result (self.new ≡ self.old ++ record { index = index; stated = Some lits.now; antecedents = antecedents.now } ∷ []) }
+        ensures ok { OnOk result (self.new ≡ self.old ++ record {
+          index = index;
+          stated = Some lits.now;
+          antecedents = antecedents.now;
+        } ∷ []) }
         ensures err { OnErr result (self.new ≡ self.old) }
     {
         let greatest = greatest_with(self.greatest, lits);
@@ -130,7 +136,11 @@ impl Trace {
         requires other { (k : ℕ) → k < length self.old → index_at self.old k ≢ index }
         requires derived { antecedents.now ≢ [] }
         requires earlier { (p : ℕ) → Has antecedents.now p → p < length self.old }
-        ensures ok { OnOk result (self.new ≡ self.old ++ record { index = index; stated = None; antecedents = antecedents.now } ∷ []) }
+        ensures ok { OnOk result (self.new ≡ self.old ++ record {
+          index = index;
+          stated = None;
+          antecedents = antecedents.now;
+        } ∷ []) }
         ensures err { OnErr result (self.new ≡ self.old) }
     {
         fill(&mut self.signs, self.columns.indices.len())?;

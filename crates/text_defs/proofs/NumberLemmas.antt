@@ -12,9 +12,11 @@ abbrev read_on : ℕ → List ℕ → ℕ
 read_on n [] = n
 read_on n (b ∷ bs) = read_on (10 * n + (b - 48)) bs
 
+-- reading on from 0 gives each number its digits: what std's lemmas on numerals need to hold here
 own : IsNumeralModel (λ ds. all_ascii_digits ds ≡ true) (read_on 0)
 own = numerals_by_fold _ (search rules) read_on (search rules)
 
+-- where digits alone stand, the first byte is a digit and digits alone follow
 from_digits : (d : Bool) (rest : Bool) → (d && rest) ≡ true → (d ≡ true) × (rest ≡ true)
 from_digits true rest h = (refl, h)
 from_digits false rest h = absurd (cc)
@@ -27,6 +29,7 @@ number_from-digits n (b ∷ bs) h =
     let e : is_ascii_digit b ≡ true = parts.0 in
     rw e (number_from-digits (10 * n + (b - 48)) bs parts.1)
 
+-- a choice that gave a number with nothing to fall back on was made for it
 chosen : {X : Type 0} (d : Bool) (o : Option X) (x : X) → (if d then o else None) ≡ Some x → (d ≡ true) × (o ≡ Some x)
 chosen true o x h = (refl, h)
 chosen false o x h = absurd (cc)
@@ -53,6 +56,7 @@ record IsSpelling (ds : List ℕ) : Type 0 where
   nonempty : 0 < length ds
   leading : get_or ds 0 0 ≡ 48 → length ds ≡ 1
 
+-- the digits of a spelling are read as their number
 number_in-spelling : (ds : List ℕ) → IsSpelling ds → number_in ds ≡ Some (read_on 0 ds)
 number_in-spelling [] h = absurd (omega (arith, h.nonempty))
 number_in-spelling (b ∷ []) h = number_from-digits 0 (b ∷ []) h.digits
@@ -60,10 +64,12 @@ number_in-spelling (b ∷ c ∷ bs) h =
     let e : (b == 48) ≡ false = ne_eqb b 48 (λ z. absurd (omega (arith, h.leading z))) in
     rw e (number_from-digits 0 (b ∷ c ∷ bs) h.digits)
 
+-- a choice that gave a number behind nothing was made against nothing
 other : {X : Type 0} (d : Bool) (o : Option X) (x : X) → (if d then None else o) ≡ Some x → (d ≡ false) × (o ≡ Some x)
 other true o x h = absurd (cc)
 other false o x h = (refl, h)
 
+-- what is read as a number is a spelling, of that number
 spelling_from-number_in : (ds : List ℕ) (n : ℕ) → number_in ds ≡ Some n → IsSpelling ds × (read_on 0 ds ≡ n)
 spelling_from-number_in [] n h = absurd (cc)
 spelling_from-number_in (b ∷ []) n h =
@@ -74,6 +80,7 @@ spelling_from-number_in (b ∷ c ∷ bs) n h =
     let parts = number_from-some 0 (b ∷ c ∷ bs) n split.1 in
     (record { digits = parts.0; nonempty = omega arith; leading = λ e. absurd (grind (arith, eq-eqb b 48 e, split.0)) }, parts.1)
 
+-- the decimal digits of a number are a spelling
 decimal_is_spelling : (n : ℕ) → n < 2 ^ 64 → IsSpelling (decimal n)
 decimal_is_spelling zero h = record {
   digits = digits_decimal own 0 h;
@@ -101,6 +108,7 @@ spelled_from-number_in text n h e =
 
 -- ---- numbers up to a greatest one
 
+-- a number that passes the bound is the one that was there, and is at most the greatest
 at_most-cases : (max n m : ℕ) (t : Bool) → nat_le m max ≡ t → (if t then Some m else None) ≡ Some n → (m ≡ n) × (n ≤ max)
 at_most-cases max n m true e h = let same : m ≡ n = cc in let le : m ≤ max = leb-true m max e in (same, omega arith)
 at_most-cases max n m false e h = absurd (cc)
@@ -114,9 +122,11 @@ at_most-some max n (Some m) h = let found = at_most-cases max n m (nat_le m max)
 pub at_most-within : (max n : ℕ) → n ≤ max → at_most max (Some n) ≡ Some n
 at_most-within max n h = rw (le-leb n max h) refl
 
+-- a number above the greatest is none
 at_most-over : (max n : ℕ) → max < n → at_most max (Some n) ≡ None
 at_most-over max n h = rw (lt-leb n max h) refl
 
+-- where each number that there may be is above the greatest, there is none
 above : (max n : ℕ) (o : Option ℕ) → max < n → ((m : ℕ) → o ≡ Some m → n ≤ m) → at_most max o ≡ None
 above max n None far h = refl
 above max n (Some m) far h = at_most-over max m (let le : n ≤ m = h m refl in omega arith)
@@ -136,6 +146,7 @@ number_within-spelled max n w small h =
 pub spelled-number_within : (max n : ℕ) (w : List ℕ) → max < 2 ^ 64 → Spells w n → n ≤ max → number_within max w ≡ Some n
 spelled-number_within max n w small e le = ap (at_most max) (number_in-spelled w n (omega arith) e) ∙ at_most-within max n le
 
+-- a number that passes the lower bound is the one that was there, and isn't 0
 at_least-cases : (n m : ℕ) (t : Bool) → nat_le 1 m ≡ t → (if t then Some m else None) ≡ Some n → (m ≡ n) × (1 ≤ n)
 at_least-cases n m true e h = let same : m ≡ n = cc in let le : 1 ≤ m = leb-true 1 m e in (same, omega arith)
 at_least-cases n m false e h = absurd (cc)
@@ -159,16 +170,19 @@ spelled-positive_within max n w small e low le =
 
 -- ---- digit by digit, as a reader goes
 
+-- digits that are read from 0 are read on from the first one's value
 number_from-first : (b : ℕ) (bs : List ℕ) → 48 ≤ b → b ≤ 57 → number_from 0 (b ∷ bs) ≡ number_from (b - 48) bs
 number_from-first b bs low high =
     let digit : is_ascii_digit b ≡ true = rw (le-leb 48 b low, le-leb b 57 high) refl in
     let zero : 10 * 0 + (b - 48) ≡ b - 48 = omega arith in
     rw digit (ap (λ (v : ℕ). number_from v bs) zero)
 
+-- a text that begins with a digit from 1 to 9 is read on from its value
 number_in-first : (b : ℕ) (bs : List ℕ) → 48 < b → b ≤ 57 → number_in (b ∷ bs) ≡ number_from (b - 48) bs
 number_in-first b [] low high = number_from-first b [] (omega arith) high
 number_in-first b (c ∷ cs) low high = rw (ne_eqb b 48 (λ e. omega arith)) (number_from-first b (c ∷ cs) (omega arith) high)
 
+-- where each number that there may be is 1 or more, asking for 1 or more changes nothing
 at_least_one-kept : (max n : ℕ) (o : Option ℕ) → 1 ≤ n → ((m : ℕ) → o ≡ Some m → n ≤ m) → at_least_one (at_most max o) ≡ at_most max o
 at_least_one-kept max n None low h = refl
 at_least_one-kept max n (Some m) low h = elim (cases_Bool (nat_le m max)) [
@@ -182,9 +196,11 @@ positive_within-first max b bs low high =
     ap (λ o. at_least_one (at_most max o)) (number_in-first b bs low high)
     ∙ at_least_one-kept max (b - 48) (number_from (b - 48) bs) (omega arith) (λ m e. number_from-le (b - 48) bs m e)
 
+-- a byte that isn't a digit ends the reading without a number
 no_digit : (n b : ℕ) (bs : List ℕ) → is_ascii_digit b ≡ false → number_from n (b ∷ bs) ≡ None
 no_digit n b bs e = rw e refl
 
+-- a text that begins with another byte than a digit spells no number
 number_in-other : (b : ℕ) (bs : List ℕ) → is_ascii_digit b ≡ false → number_in (b ∷ bs) ≡ None
 number_in-other b [] e = no_digit 0 b [] e
 number_in-other b (c ∷ cs) e = elim (cases_Bool (b == 48)) [
@@ -192,10 +208,12 @@ number_in-other b (c ∷ cs) e = elim (cases_Bool (b == 48)) [
   | inr z ↦ rw z (no_digit 0 b (c ∷ cs) e)
 ]
 
+-- a text that begins with 0 spells no positive number
 zero_first : (max : ℕ) (bs : List ℕ) → positive_within max (48 ∷ bs) ≡ None
 zero_first max [] = rw (le-leb 0 max (omega arith)) refl
 zero_first max (c ∷ cs) = refl
 
+-- a byte that isn't a digit from 1 to 9 is 0 or no digit
 digit_or_not : (b : ℕ) → (b ≤ 48) ⊎ (57 < b) → (b ≡ 48) ⊎ (is_ascii_digit b ≡ false)
 digit_or_not b (inl low) = elim (cases_eq b 48) [
   | inl e ↦ inl e

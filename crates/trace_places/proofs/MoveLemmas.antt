@@ -1,34 +1,12 @@
 -- Indices that move into other groups, or into the map.
-use Rattle.std.proofs.Common.{◌⊎◌, ◌≡◌, ℕ, ◌+◌, ◌-◌, ◌<◌, cond, nat_cmp, inl, inr, List, length, get_or, Option, Some, sym, ap, ◌∙◌, subst, arith}
+use Rattle.std.proofs.Common.{◌⊎◌, ◌≡◌, ℕ, ◌<◌, cond, nat_cmp, inl, inr, List, length, get_or, Option, Some, sym, ap, ◌∙◌, subst, arith}
 use Rattle.std.proofs.lemmas.Bool.{cases_lt, cases_eq, cond-true, cond-false}
-use Rattle.std.proofs.lemmas.List.{get_or_default, get_or_past}
+use Rattle.std.proofs.lemmas.List.{get_or_past}
 use Rattle.std.specs.BTreeMap.{is_at}
 use Rattle.clause_defs.specs.Traces.{place_of}
 use Rattle.trace_places.specs.Groups.{HasSlot, StandsInSlot, NoSlots}
 use Rattle.trace_places.specs.Places.{AreRight, MapsRight, HasAll, AreKept, IsMoved}
 use Rattle.trace_places.proofs.PlaceLemmas.{is_at_same, is_at_other}
-use Rattle.trace_places.proofs.PushLemmas.{entry_of}
-
--- what a slot has, as it was read
-pub record IsRead (slots numbers : List ℕ) (s x n : ℕ) : Type 0 where
-  pub slot_within : s < length slots
-  pub number_within : s < length numbers
-  pub index : x ≡ get_or slots s x
-  pub number : n ≡ get_or numbers s n
-  pub some : n ≡ 0 → ⊥
-
-index_is : (slots numbers : List ℕ) (s x n : ℕ) → IsRead slots numbers s x n → get_or slots s 0 ≡ x
-index_is slots numbers s x n h = sym (h.index ∙ get_or_default slots s x 0 h.slot_within)
-
-number_is : (slots numbers : List ℕ) (s x n : ℕ) → IsRead slots numbers s x n → get_or numbers s 0 ≡ n - 1 + 1
-number_is slots numbers s x n h =
-    let same : n ≡ get_or numbers s 0 = h.number ∙ get_or_default numbers s n 0 h.number_within in
-    entry_of (get_or numbers s 0) n same (λ z. h.some (same ∙ z))
-
--- the place that was read is that of the index
-pub read_place : (indices slots numbers : List ℕ) (s x n : ℕ) → AreRight indices slots numbers → IsRead slots numbers s x n → place_of indices x ≡ Some (n - 1)
-read_place indices slots numbers s x n right h =
-    right x (n - 1) (record { slot = s; index = index_is slots numbers s x n h; number = number_is slots numbers s x n h })
 
 -- slots with one more index
 pub right_after : (indices slots numbers new_slots new_numbers : List ℕ) (x q : ℕ) → place_of indices x ≡ Some q → AreRight indices slots numbers
@@ -48,6 +26,7 @@ maps_right_after indices others new x q here mapped insert y p e = elim (cases_e
   | inr other ↦ mapped y p (sym (insert y ∙ cond-false (is_at (nat_cmp x) y) (Some q) (others y) (is_at_other x y other)) ∙ e)
 ]
 
+-- an index that is put into the map at its right place takes no other index out
 pub has_all_after : (indices : List ℕ) (others new : ℕ → Option ℕ) (x q : ℕ) → place_of indices x ≡ Some q → MapsRight indices others
     → ((y : ℕ) → new y ≡ cond (is_at (nat_cmp x) y) (Some q) (others y)) → HasAll others new
 has_all_after indices others new x q here mapped insert y p e = elim (cases_eq x y) [

@@ -16,6 +16,7 @@ pub entry_of : (n t : ℕ) → t ≡ n → (n ≡ 0 → ⊥) → n ≡ t - 1 + 1
 entry_of zero t e some = absurd (some refl)
 entry_of (suc n) t e some = omega arith
 
+-- an index that stands nowhere has no place
 place_from-absent : (k : ℕ) (xs : List ℕ) (x : ℕ) → ((j : ℕ) → j < length xs → get_or xs j 0 ≡ x → ⊥) → place_from k xs x ≡ None
 place_from-absent k [] x absent = refl
 place_from-absent k (y ∷ ys) x absent =
@@ -30,6 +31,7 @@ known_nowhere indices table count slots numbers others x h no_entry no_slot no_o
   | inr (inr other) ↦ (let here = ap others e in absurd (cc))
 ])
 
+-- of an index that the table and the slots don't know, the map says the place
 said_by_map : (indices table : List ℕ) (count : ℕ) (slots numbers : List ℕ) (others : ℕ → Option ℕ) (x : ℕ) (o : Option ℕ) → ArePlaces indices table count slots numbers others
     → get_or table x 0 ≡ 0 → ((k : ℕ) → StandsInSlot count slots numbers x k → ⊥) → others x ≡ o → o ≡ place_of indices x
 said_by_map indices table count slots numbers others x None h no_entry no_slot e = sym (known_nowhere indices table count slots numbers others x h no_entry no_slot e)
@@ -47,6 +49,7 @@ known_in_map indices table count slots numbers others x h no_entry no_slot =
 still : (indices : List ℕ) (x y p : ℕ) → place_of indices x ≡ None → place_of indices y ≡ Some p → place_of (indices ++ x ∷ []) y ≡ Some p
 still indices x y p none e = place_of-push_other indices x y (λ same. let here = ap (place_of indices) same in absurd (cc)) ∙ e
 
+-- indices that each have their own place keep it with a new one behind them
 distinct-push : (indices : List ℕ) (x : ℕ) → place_of indices x ≡ None
     → ((k : ℕ) → k < length indices → place_of indices (get_or indices k 0) ≡ Some k)
     → (k : ℕ) → k < length (indices ++ x ∷ []) → place_of (indices ++ x ∷ []) (get_or (indices ++ x ∷ []) k 0) ≡ Some k
@@ -70,6 +73,7 @@ pub record Adds (indices table new_table : List ℕ) (count : ℕ) (slots number
   pub mapped_here : (p : ℕ) → new_others x ≡ Some p → p ≡ length indices
   pub known : IsKnown (indices ++ x ∷ []) new_table count new_slots new_numbers new_others (length indices)
 
+-- an index that the table, the slots or the map knew is known with a new one added
 known_still : (indices table new_table : List ℕ) (count : ℕ) (slots numbers new_slots new_numbers : List ℕ) (others new_others : ℕ → Option ℕ) (x k : ℕ) → (x ≡ get_or indices k 0 → ⊥)
     → Adds indices table new_table count slots numbers new_slots new_numbers others new_others x → k < length indices
     → IsKnown indices table count slots numbers others k → IsKnown (indices ++ x ∷ []) new_table count new_slots new_numbers new_others k
@@ -87,6 +91,7 @@ at_end indices x y p none same here =
     subst (λ (z : ℕ). place_of (indices ++ x ∷ []) z ≡ Some p) same
     (place_of-push_same indices x none ∙ ap (λ (n : ℕ). Some n) (sym here))
 
+-- what the table, the slots and the map say stays right with a new index added to one of them
 pub ArePlaces-more : (indices table new_table : List ℕ) (count : ℕ) (slots numbers new_slots new_numbers : List ℕ) (others new_others : ℕ → Option ℕ) (x : ℕ)
     → place_of indices x ≡ None → ArePlaces indices table count slots numbers others
     → Adds indices table new_table count slots numbers new_slots new_numbers others new_others x
@@ -115,10 +120,12 @@ ArePlaces-more indices table new_table count slots numbers new_slots new_numbers
   ];
 }
 
+-- the table has no entry for a new index
 no_entry : (indices table : List ℕ) (count : ℕ) (slots numbers : List ℕ) (others : ℕ → Option ℕ) (x p : ℕ) → place_of indices x ≡ None
     → ArePlaces indices table count slots numbers others → get_or table x 0 ≡ p + 1 → p ≡ length indices
 no_entry indices table count slots numbers others x p none h e = let found = h.tabled x p e in absurd (cc)
 
+-- the map has no place for a new index
 no_other : (indices table : List ℕ) (count : ℕ) (slots numbers : List ℕ) (others : ℕ → Option ℕ) (x p : ℕ) → place_of indices x ≡ None
     → ArePlaces indices table count slots numbers others → others x ≡ Some p → p ≡ length indices
 no_other indices table count slots numbers others x p none h e = let found = h.mapped x p e in absurd (cc)

@@ -58,7 +58,9 @@ impl Groups {
     pub fn find(&self, index: u32) -> Option<u32>
         requires { AreSlots self.now.count self.now.indices.items self.now.numbers.items }
         ensures some { IfSome result (HasSlot self.now.indices.items self.now.numbers.items index) }
-        ensures none { IfNone result ((k : ℕ) → StandsInSlot self.now.count self.now.indices.items self.now.numbers.items index k → ⊥) }
+        ensures none { IfNone result ((k : ℕ)
+            → StandsInSlot self.now.count self.now.indices.items self.now.numbers.items index k
+            → ⊥) }
     {
         if self.count == 0 {
             return None;
@@ -79,9 +81,26 @@ impl Groups {
         requires number { slot < length self.now.numbers.items }
         ensures same { result ≡ true → get_or self.now.indices.items slot 0 ≡ index }
         ensures some { result ≡ true → 0 < get_or self.now.numbers.items slot 0 }
-        ensures other { result ≡ false → (k : ℕ) → get_or self.now.indices.items slot 0 ≡ index → get_or self.now.numbers.items slot 0 ≡ k + 1 → ⊥ }
+        ensures other { result ≡ false → (k : ℕ)
+            → get_or self.now.indices.items slot 0 ≡ index
+            → get_or self.now.numbers.items slot 0 ≡ k + 1 → ⊥ }
     {
         self.indices[slot] == index && self.numbers[slot] > 0
+    }
+
+    /// What stands in the slot: an index and its place, or nothing.
+    pub fn entry(&self, slot: usize) -> Option<(u32, u32)>
+        requires slots { AreSlots self.now.count self.now.indices.items self.now.numbers.items }
+        requires within { slot < length self.now.numbers.items }
+        ensures index { IfSome result (λ e. get_or self.now.indices.items slot 0 ≡ e.0) }
+        ensures number { IfSome result (λ e. get_or self.now.numbers.items slot 0 ≡ e.1 + 1) }
+        ensures few { IfSome result (λ e. e.1 + 1 < 4_294_967_296) }
+        ensures none { IfNone result (get_or self.now.numbers.items slot 0 ≡ 0) }
+    {
+        if self.numbers[slot] == 0 {
+            return None;
+        }
+        Some((self.indices[slot], self.numbers[slot] - 1))
     }
 
     /// Puts an index with its place into a slot of its group, if one is empty.
@@ -91,10 +110,17 @@ impl Groups {
         requires few { place + 1 < 4_294_967_296 }
         ensures slots { AreSlots self.new.count self.new.indices.items self.new.numbers.items }
         ensures count { self.new.count ≡ self.old.count }
-        ensures kept { (x p : ℕ) → StandsInSlot self.old.count self.old.indices.items self.old.numbers.items x p → StandsInSlot self.new.count self.new.indices.items self.new.numbers.items x p }
-        ensures added { result ≡ true → StandsInSlot self.new.count self.new.indices.items self.new.numbers.items index place }
-        ensures same { result ≡ false → (self.new.indices.items ≡ self.old.indices.items) × (self.new.numbers.items ≡ self.old.numbers.items) }
-        ensures only { (x p : ℕ) → HasSlot self.new.indices.items self.new.numbers.items x p → HasSlot self.old.indices.items self.old.numbers.items x p ⊎ ((index ≡ x) × (p ≡ place)) }
+        ensures kept { (x p : ℕ)
+            → StandsInSlot self.old.count self.old.indices.items self.old.numbers.items x p
+            → StandsInSlot self.new.count self.new.indices.items self.new.numbers.items x p }
+        ensures added { result ≡ true → StandsInSlot self.new.count
+            self.new.indices.items self.new.numbers.items index place }
+        ensures same { result ≡ false
+            → (self.new.indices.items ≡ self.old.indices.items)
+            × (self.new.numbers.items ≡ self.old.numbers.items) }
+        ensures only { (x p : ℕ) → HasSlot self.new.indices.items self.new.numbers.items x p
+            → HasSlot self.old.indices.items self.old.numbers.items x p
+            ⊎ ((index ≡ x) × (p ≡ place)) }
     {
         let first = first(index, self.count);
         let Some(slot) = empty_slot(&self.numbers, first) else {
@@ -109,7 +135,8 @@ impl Groups {
 // An empty slot of the group that begins with this slot.
 fn empty_slot(numbers: &[u32], first: usize) -> Option<usize>
     requires { first + GROUP ≤ length numbers.now }
-    ensures { IfSome result (λ s. (first ≤ s) × (s < first + GROUP) × (get_or numbers.now s 0 ≡ 0)) }
+    ensures { IfSome result (λ s. (first ≤ s) × (s < first + GROUP)
+        × (get_or numbers.now s 0 ≡ 0)) }
 {
     for slot in first..first + GROUP {
         if numbers[slot] == 0 {

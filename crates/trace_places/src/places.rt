@@ -45,7 +45,8 @@ impl Model for Places {
 
     ghost view = { λ p. p.indices.items };
 
-    ghost invariant = { λ p. ArePlaces p.indices.items p.table.items p.groups.count p.groups.indices.items p.groups.numbers.items (get nat_cmp p.others) };
+    ghost invariant = { λ p. ArePlaces p.indices.items p.table.items p.groups.count
+        p.groups.indices.items p.groups.numbers.items (get nat_cmp p.others) };
 }
 
 impl Places {
@@ -124,7 +125,9 @@ impl Places {
 
     /// The places of all these indices, appended to `found`, or the first index that doesn't stand there.
     pub fn find_all(&self, indices: &[u32], found: &mut Vec<u32>) -> Result<Option<u32>, NoMemory>
-        ensures { IfOk result (λ unknown. MatchOption unknown (places_from self.now found.old.items indices.now ≡ Ok found.new.items) (λ x. places_from self.now found.old.items indices.now ≡ Err x)) }
+        ensures { IfOk result (λ unknown. MatchOption unknown
+            (places_from self.now found.old.items indices.now ≡ Ok found.new.items)
+            (λ x. places_from self.now found.old.items indices.now ≡ Err x)) }
     {
         for index in indices {
             let Some(place) = self.place(*index) else {
@@ -152,7 +155,10 @@ fn make_room(
     ensures right { AreRight indices.now groups.new.indices.items groups.new.numbers.items }
     ensures mapped { MapsRight indices.now (get nat_cmp others.new) }
     ensures all { HasAll (get nat_cmp others.old) (get nat_cmp others.new) }
-    ensures kept { AreKept groups.old.count groups.old.indices.items groups.old.numbers.items groups.new.count groups.new.indices.items groups.new.numbers.items (get nat_cmp others.new) }
+    ensures kept { AreKept
+        groups.old.count groups.old.indices.items groups.old.numbers.items
+        groups.new.count groups.new.indices.items groups.new.numbers.items
+        (get nat_cmp others.new) }
     ensures some { OnOk result (0 < groups.new.count) }
 {
     if in_groups / 4 < groups.count {
@@ -190,17 +196,21 @@ fn move_slot(
     ensures right { AreRight indices.now more.new.indices.items more.new.numbers.items }
     ensures mapped { MapsRight indices.now (get nat_cmp others.new) }
     ensures all { HasAll (get nat_cmp others.old) (get nat_cmp others.new) }
-    ensures kept { AreKept more.old.count more.old.indices.items more.old.numbers.items more.new.count more.new.indices.items more.new.numbers.items (get nat_cmp others.old) }
-    ensures moved { OnOk result (IsMoved groups.now.indices.items groups.now.numbers.items more.new.count more.new.indices.items more.new.numbers.items (get nat_cmp others.new) slot) }
+    ensures kept { AreKept
+        more.old.count more.old.indices.items more.old.numbers.items
+        more.new.count more.new.indices.items more.new.numbers.items (get nat_cmp others.old) }
+    ensures moved { OnOk result (IsMoved
+        groups.now.indices.items groups.now.numbers.items
+        more.new.count more.new.indices.items more.new.numbers.items
+        (get nat_cmp others.new) slot) }
 {
-    let number = groups.numbers[slot];
-    if number == 0 {
+    let Some((index, place)) = groups.entry(slot) else {
+        return Ok(());
+    };
+    if more.add(index, place) {
         return Ok(());
     }
-    if more.add(groups.indices[slot], number - 1) {
-        return Ok(());
-    }
-    others.insert(groups.indices[slot], number - 1)?;
+    others.insert(index, place)?;
     Ok(())
 }
 
@@ -221,8 +231,10 @@ fn cover(table: &mut Vec<u32>, limit: usize, at: usize) -> Result<(), NoMemory>
 /// Puts a number into the table, which gets longer for it, but not longer than `limit`.
 fn put(table: &mut Vec<u32>, limit: usize, index: u32, number: u32) -> Result<(), NoMemory>
     requires { index < limit }
-    ensures set { OnOk result ((x : ℕ) → slice_index table.new.items x ≡ (if index == x then number else slice_index table.old.items x)) }
-    ensures same { OnErr result ((x : ℕ) → slice_index table.new.items x ≡ slice_index table.old.items x) }
+    ensures set { OnOk result ((x : ℕ) → slice_index table.new.items x
+        ≡ (if index == x then number else slice_index table.old.items x)) }
+    ensures same { OnErr result
+        ((x : ℕ) → slice_index table.new.items x ≡ slice_index table.old.items x) }
 {
     let at = index as usize;
     cover(table, limit, at)?;

@@ -31,6 +31,7 @@ abbrev GoesThrough : ℕ → ℕ → List Token → List Token → List Token �
 GoesThrough v end all xs rest t p =
     ((u : List Entry) × (q : Part) × Stands v all u q × (trace_from v end (xs ++ rest) t p ≡ trace_from v end rest u q)) ⊎ JudgedInside v all
 
+-- what a token leads to is read on as from behind the token
 step_before : (v end : ℕ) (all xs ys rest : List Token) (t u : List Entry) (p q : Part) → trace_from v end (xs ++ rest) t p ≡ trace_from v end (ys ++ rest) u q
     → GoesThrough v end all ys rest u q → GoesThrough v end all xs rest t p
 step_before v end all xs ys rest t u p q e (inl h) = inl (h.0, h.1, h.2, e ∙ h.3)
@@ -40,6 +41,7 @@ step_before v end all xs ys rest t u p q e (inr h) = inr h
 abbrev Through : ℕ → ℕ → List Token → List Token → List Token → List Token → Type 0
 Through v end all before xs rest = (u : List Entry) (q : Part) → Stands v before u q → GoesThrough v end all xs rest u q
 
+-- a token that ends a right clause leads to the start of the next one
 through_whole : (v end : ℕ) (all before xs rest : List Token) (w : Token) (t : List Entry) (p : Part) (s : Spelled) → all ≡ before ++ (w ∷ xs) → Stands v before t p
     → step v p w ≡ Ok (is_whole s) → Through v end all (before ++ w ∷ []) xs rest → GoesThrough v end all (w ∷ xs) rest t p
 through_whole v end all before xs rest w t p s e h k more = elim (cases_Result (judged t s)) [
@@ -50,12 +52,14 @@ through_whole v end all before xs rest w t p s e h k more = elim (cases_Result (
   | inr wrong ↦ inr (t, s, wrong.0, first_judged v all before xs w t p s e h k, wrong.1)
 ]
 
+-- a token with which a clause goes on leads further into the clause
 through_next : (v end : ℕ) (all before xs rest : List Token) (w : Token) (t : List Entry) (p : Part) (n : Next) → all ≡ before ++ (w ∷ xs) → Stands v before t p
     → step v p w ≡ Ok n → Through v end all (before ++ w ∷ []) xs rest → GoesThrough v end all (w ∷ xs) rest t p
 through_next v end all before xs rest w t p (goes_on q) e h k more =
     step_before v end all (w ∷ xs) xs rest t t p q (trace_from-goes_on v end w (xs ++ rest) t p q k) (more t q (stands-goes_on v before w t p q h k))
 through_next v end all before xs rest w t p (is_whole s) e h k more = through_whole v end all before xs rest w t p s e h k more
 
+-- tokens that can stand are read up to where a clause is judged, or to their end
 go_through : (v end : ℕ) (all before xs rest : List Token) (t : List Entry) (p : Part) → all ≡ before ++ xs → EachCanStand v all → Stands v before t p
     → GoesThrough v end all xs rest t p
 go_through v end all before [] rest t p e each h = inl (t, p, subst (λ (ts : List Token). Stands v ts t p) (sym (e ∙ append-nil before)) h, refl)
@@ -66,6 +70,7 @@ go_through v end all before (w ∷ xs) rest t p e each h =
 
 -- ---- a clause is judged only when it is whole
 
+-- the fault is a token that can't stand, or an end inside a clause
 abbrev IsSyntax : TraceError → Type 0
 IsSyntax f = (at : ℕ) × (f ≡ Syntax at)
 
@@ -73,9 +78,11 @@ IsSyntax f = (at : ℕ) × (f ≡ Syntax at)
 abbrev HasWhole : Role → List Token → Type 0
 HasWhole r us = (front : List Token) × (back : List Token) × (us ≡ front ++ back) × (words_of front ≢ []) × (role_behind r (words_of front) ≡ index)
 
+-- the words of a token and more aren't none
 some_words : (w : Token) (us : List Token) → words_of (w ∷ us) ≢ []
 some_words w us e = cc
 
+-- a whole clause behind a token is one behind it too with the token counted in
 put_before : (f : TraceError) (r q : Role) (w : Token) (us : List Token) → role_after r w.bytes ≡ q → IsSyntax f ⊎ HasWhole q us → IsSyntax f ⊎ HasWhole r (w ∷ us)
 put_before f r q w us e (inl h) = inl h
 put_before f r q w us e (inr h) = inr (
@@ -86,6 +93,7 @@ put_before f r q w us e (inr h) = inr (
   ap (λ (x : Role). role_behind x (words_of h.0)) e ∙ h.4,
 )
 
+-- where a token ends a clause, the tokens from it on have a whole one
 whole_here : (r : Role) (w : Token) (us : List Token) → role_after r w.bytes ≡ index → HasWhole r (w ∷ us)
 whole_here r w us e = (w ∷ [], us, refl, some_words w [], e)
 
@@ -93,6 +101,7 @@ whole_here r w us e = (w ∷ [], us, refl, some_words w [], e)
 abbrev AtWhole : ℕ → ℕ → List Token → TraceError → Type 0
 AtWhole v end us f = (t : List Entry) (p : Part) → trace_from v end us t p ≡ Err f → IsSyntax f ⊎ HasWhole (role_of p) us
 
+-- a fault behind one more token is of syntax, or a whole clause stands before it
 next_whole : (v end : ℕ) (w : Token) (us : List Token) (t : List Entry) (p : Part) (f : TraceError) (r : Result Next TraceError) → step v p w ≡ r
     → trace_from v end (w ∷ us) t p ≡ Err f → AtWhole v end us f → IsSyntax f ⊎ HasWhole (role_of p) (w ∷ us)
 next_whole v end w us t p f (Ok (goes_on q)) k h rest =
@@ -106,6 +115,7 @@ next_whole v end w us t p f (Err d) k h rest =
     let one : f ≡ d = cc in
     inl (w.at, one ∙ step-err v p w d k)
 
+-- a fault behind a clause that was judged has a whole clause before it, or is of syntax
 judged_whole : (v end : ℕ) (us : List Token) (f : TraceError) → AtWhole v end us f
 judged_whole v end [] f t start r = absurd (cc)
 judged_whole v end [] f t (behind_index i) r = inl (end, (let same : f ≡ Syntax end = cc in same))
@@ -122,6 +132,7 @@ judged_read v end all t s f h e =
     let one = read_clause v end whole.0 t s h.after h.clause whole.1 in
     whole.2 ∙ one.2 ∙ ap (λ (r : Result (List Entry) TraceError). r >>= λ u. trace_from v end one.0 u start) e
 
+-- a fault of the judgement is none of syntax
 not_syntax : (t : List Entry) (s : Spelled) (f : TraceError) → IsJudged t s f → IsSyntax f → ⊥
 not_syntax t s f (inl twice) h = let clash : Repeated s.index ≡ Syntax h.0 = sym twice.1 ∙ h.1 in absurd (cc)
 not_syntax t s f (inr lost) h = let clash : Unknown s.index lost.0 ≡ Syntax h.0 = sym lost.3 ∙ h.1 in absurd (cc)
@@ -139,6 +150,7 @@ none_judged v all t h wrong =
 
 -- ---- each fault
 
+-- the first token that can't stand is the fault that is read
 bad_read : (v end : ℕ) (all : List Token) (w : Token) → FirstBad v all w → trace_from v end all [] start ≡ Err (Syntax w.at)
 bad_read v end all w h = elim (go_through v end h.before [] h.before (w ∷ h.after) [] start refl h.each_before (nothing_stands v)) [
   | inl read ↦
@@ -148,6 +160,7 @@ bad_read v end all w h = elim (go_through v end h.before [] h.before (w ∷ h.af
   | inr wrong ↦ absurd (none_judged v h.before h.trace h.right wrong)
 ]
 
+-- an end inside a clause is the fault that is read there
 ends_at : (v end : ℕ) (all : List Token) (t : List Entry) (p : Part) → Stands v all t p → (AreWhole (words_of all) → ⊥) → trace_from v end [] t p ≡ Err (Syntax end)
 ends_at v end all t start h bad = absurd (bad h.role)
 ends_at v end all t (behind_index i) h bad = refl
@@ -155,12 +168,14 @@ ends_at v end all t (among_lits i ls) h bad = refl
 ends_at v end all t (behind_sign i) h bad = refl
 ends_at v end all t (among_antecedents i stated xs) h bad = refl
 
+-- a text that ends inside a clause is read as that fault
 inside_read : (v end : ℕ) (all : List Token) → EndsInside v all → trace_from v end all [] start ≡ Err (Syntax end)
 inside_read v end all h = elim (go_through v end all [] all [] [] start refl h.each (nothing_stands v)) [
   | inl read ↦ ap (λ (ts : List Token). trace_from v end ts [] start) (sym (append-nil all)) ∙ read.3 ∙ ends_at v end all read.0 read.1 read.2 h.not_whole
   | inr wrong ↦ absurd (none_judged v all h.trace h.right wrong)
 ]
 
+-- the fault of the tokens is the one that is read
 fault_read : (v end : ℕ) (all : List Token) (f : TraceError) → FaultOf v end all f → trace_from v end all [] start ≡ Err f
 fault_read v end all TooLong h = absurd h
 fault_read v end all (Syntax at) (inl h) = bad_read v end all h.0 h.1 ∙ ap (λ (n : ℕ). Err (Syntax n)) (sym h.2)
@@ -171,6 +186,7 @@ fault_read v end all (Unknown lost antecedent) h =
     judged_read v end all h.0 h.1 (Unknown h.1.index antecedent) h.2 (judged-unknown h.0 h.1 antecedent h.3 h.5) ∙ ap (λ (n : ℕ). Err (Unknown n antecedent)) (sym h.4)
 fault_read v end all NoMemory h = absurd h
 
+-- a text with too many bytes is read as that fault
 too_long : (text : List ℕ) (v : ℕ) → MAX_TRACE_BYTES < length text → trace_in v text ≡ Err TooLong
 too_long text v h = rw (lt-ltb MAX_TRACE_BYTES (length text) h) refl
 

@@ -32,6 +32,7 @@ place_from-none k (d ∷ es) x none =
     let other : (d.index == x) ≡ false = ne_eqb d.index x (none 0 (omega arith)) in
     rw other (place_from-none (k + 1) es x (λ j below. none (suc j) (omega arith)))
 
+-- an index that is found from the first clause on has its place there or among the later clauses
 found_at : (k q : ℕ) (d : Entry) (es : List Entry) (x : ℕ) (t : Bool) → (d.index == x) ≡ t
     → (if t then Some k else place_from (k + 1) (indices_of es) x) ≡ Some q
     → (place_from (k + 1) (indices_of es) x ≡ Some q → (p : ℕ) × (q ≡ k + 1 + p) × (p < length es) × (index_at es p ≡ x))
@@ -49,11 +50,13 @@ pub place_from-some : (k q : ℕ) (es : List Entry) (x : ℕ) → place_from k (
 place_from-some k q [] x h = absurd (cc)
 place_from-some k q (d ∷ es) x h = found_at k q d es x (d.index == x) refl h (place_from-some (k + 1) q es x)
 
+-- an index that isn't found from the first clause on is neither its nor a later one's
 none_at : (k : ℕ) (d : Entry) (es : List Entry) (x : ℕ) (t : Bool) → (d.index == x) ≡ t
     → (if t then Some k else place_from (k + 1) (indices_of es) x) ≡ None → (t ≡ false) × (place_from (k + 1) (indices_of es) x ≡ None)
 none_at k d es x true e h = absurd (cc)
 none_at k d es x false e h = (refl, h)
 
+-- numbers that a test tells apart are two
 not_equal : (a b : ℕ) → (a == b) ≡ false → a ≢ b
 not_equal a b h e = let t : (a == b) ≡ true = eq-eqb a b e in cc
 
@@ -73,6 +76,7 @@ place_of-some es x q h =
 
 -- ---- the places of several
 
+-- places within a trace with one more are within it
 within-snoc : (t : List Entry) (ps : List ℕ) (q : ℕ) → AreWithin t ps → q < length t → AreWithin t (ps ++ q ∷ [])
 within-snoc t ps q h lt p i = elim (Has-snoc ps q p i) [ inl j ↦ h p j | inr e ↦ subst (λ n. n < length t) e lt ]
 
@@ -95,6 +99,7 @@ places_from-ok t ps (x ∷ xs) qs h e =
 
 -- ---- what is judged right
 
+-- a clause that was placed has places for all its antecedents
 placed : (t : List Entry) (s : Spelled) (r : Result (List ℕ) ℕ) (u : List Entry) → with_places t s r ≡ Ok u
     → (ps : List ℕ) × (r ≡ Ok ps) × (u ≡ t ++ entry_of s ps ∷ [])
 placed t s (Ok ps) u e = (ps, refl, cc)
@@ -108,6 +113,7 @@ pub record IsPlaced (t : List Entry) (s : Spelled) (u : List Entry) : Type 0 whe
   pub within : AreWithin t places
   pub antecedents : map (index_at t) places ≡ s.antecedents
 
+-- where no place is found, there is none
 no_place : (o : Option ℕ) → is_some o ≡ false → o ≡ None
 no_place None e = refl
 no_place (Some q) e = absurd (cc)
@@ -134,6 +140,7 @@ HasIndex-at [] p x lt e = absurd (omega arith)
 HasIndex-at (d ∷ es) zero x lt e = (d, inl refl, e)
 HasIndex-at (d ∷ es) (suc p) x lt e = let more = HasIndex-at es p x (omega arith) e in (more.0, inr more.1, more.2)
 
+-- a clause of the trace with an index stands at some place
 at_place : (es : List Entry) (e : Entry) (x : ℕ) → Has es e → e.index ≡ x → (p : ℕ) × (p < length es) × (index_at es p ≡ x)
 at_place [] e x h same = absurd h
 at_place (d ∷ es) e x (inl k) same = (0, omega arith, ap (λ (c : Entry). c.index) k ∙ same)
@@ -150,6 +157,7 @@ none_has t x e h = let found = at_place t h.0 x h.1 h.2 in place_from-nowhere 0 
 pub some_has : (t : List Entry) (x q : ℕ) → place_of (indices_of t) x ≡ Some q → HasIndex t x
 some_has t x q e = let found = place_of-some t x q e in HasIndex-at t q x found.0 found.1
 
+-- one more known index in front leaves all of them known
 known_more : (t : List Entry) (y : ℕ) (known : List ℕ) → HasIndex t y → ((z : ℕ) → Has known z → HasIndex t z) → (z : ℕ) → Has (y ∷ known) z → HasIndex t z
 known_more t y known one h z (inl e) = (one.0, one.1, one.2 ∙ e)
 known_more t y known one h z (inr i) = h z i
@@ -186,10 +194,12 @@ IsJudged t s f =
     (HasIndex t s.index × (f ≡ Repeated s.index))
     ⊎ ((x : ℕ) × (HasIndex t s.index → ⊥) × FirstUnknown t s.antecedents x × (f ≡ Unknown s.index x))
 
+-- a clause that wasn't placed has an unknown antecedent, which is its fault
 not_placed : (t : List Entry) (s : Spelled) (r : Result (List ℕ) ℕ) (f : TraceError) → with_places t s r ≡ Err f → (x : ℕ) × (r ≡ Err x) × (f ≡ Unknown s.index x)
 not_placed t s (Ok ps) f e = absurd (cc)
 not_placed t s (Err x) f e = (x, refl, cc)
 
+-- a clause that is refused was given its fault by its index or its antecedents
 judged_by : (t : List Entry) (s : Spelled) (f : TraceError) (o : Option ℕ) → place_of (indices_of t) s.index ≡ o
     → (if is_some o then Err (Repeated s.index) else with_places t s (places_from (indices_of t) [] s.antecedents)) ≡ Err f → IsJudged t s f
 judged_by t s f (Some q) e h = inl (some_has t s.index q e, cc)
@@ -201,22 +211,27 @@ judged_by t s f None e h =
 pub judged-err : (t : List Entry) (s : Spelled) (f : TraceError) → judged t s ≡ Err f → IsJudged t s f
 judged-err t s f e = judged_by t s f (place_of (indices_of t) s.index) refl e
 
+-- a clause is judged by whether its index has a place already
 judged_when : (t : List Entry) (s : Spelled) (o : Option ℕ) → place_of (indices_of t) s.index ≡ o
     → judged t s ≡ (if is_some o then Err (Repeated s.index) else with_places t s (places_from (indices_of t) [] s.antecedents))
 judged_when t s o e = ap (λ (p : Option ℕ). if is_some p then Err (Repeated s.index) else with_places t s (places_from (indices_of t) [] s.antecedents)) e
 
+-- a clause whose index the trace has is refused as a repeated one
 judged_twice : (t : List Entry) (s : Spelled) (o : Option ℕ) → place_of (indices_of t) s.index ≡ o → HasIndex t s.index → judged t s ≡ Err (Repeated s.index)
 judged_twice t s None e h = absurd (none_has t s.index e h)
 judged_twice t s (Some q) e h = judged_when t s (Some q) e
 
+-- an index that the trace doesn't have has no place
 place_none : (t : List Entry) (x : ℕ) (o : Option ℕ) → place_of (indices_of t) x ≡ o → (HasIndex t x → ⊥) → place_of (indices_of t) x ≡ None
 place_none t x None e h = e
 place_none t x (Some q) e h = absurd (h (some_has t x q e))
 
+-- an index that the trace has has a place
 place_some : (t : List Entry) (x : ℕ) (o : Option ℕ) → place_of (indices_of t) x ≡ o → HasIndex t x → (q : ℕ) × (place_of (indices_of t) x ≡ Some q)
 place_some t x None e h = absurd (none_has t x e h)
 place_some t x (Some q) e h = (q, e)
 
+-- the first antecedent that the trace doesn't have is the one that is refused
 places_unknown : (t : List Entry) (ps known after : List ℕ) (x : ℕ) → ((y : ℕ) → Has known y → HasIndex t y) → (HasIndex t x → ⊥)
     → places_from (indices_of t) ps (known ++ (x ∷ after)) ≡ Err x
 places_unknown t ps [] after x h none =

@@ -8,6 +8,7 @@ use Rattle.trace_text_laws.proofs.TracesRead.{trace_in-text, trace_in-fault}
 use Rattle.trace_text_laws.proofs.TracesWritten.{text-trace_in}
 use Rattle.trace_text_laws.proofs.FaultsRead.{fault-trace_in}
 
+-- what is computed of a text is its trace or its fault
 trace_or_fault_of : (text : List ℕ) (v : ℕ) (r : Result (List Entry) TraceError) → trace_in v text ≡ r
     → ((t : List Entry) × TraceText text v t) ⊎ ((f : TraceError) × TraceTextFault text v f)
 trace_or_fault_of text v (Ok t) e = inl (t, trace_in-text text v t e)

@@ -62,28 +62,34 @@ abbrev pub Does : ℕ → Part → List ℕ → Next → Type 0
 Does v p w (goes_on q) = Extends v p w q
 Does v p w (is_whole s) = Closes v p w s
 
+-- literals within the limits with one more are within them
 literals-snoc : (ls : Lits) (l : Literal) → AreLiterals ls → IsLiteral l → AreLiterals (ls ++ l ∷ [])
 literals-snoc ls l h k m i = elim (Has-snoc ls l m i) [ inl j ↦ h m j | inr e ↦ subst IsLiteral e k ]
 
+-- indices within the limits with one more are within them
 indices-snoc : (xs : List ℕ) (x : ℕ) → AreIndices xs → IsIndex x → AreIndices (xs ++ x ∷ [])
 indices-snoc xs x h k y i = elim (Has-snoc xs x y i) [ inl j ↦ h y j | inr e ↦ subst IsIndex e k ]
 
+-- a list with one more at its end isn't empty
 longer : (xs : List ℕ) (x : ℕ) → xs ++ x ∷ [] ≢ []
 longer [] x e = cc
 longer (y ∷ xs) x e = cc
 
+-- the words of a clause's beginning with one more literal are one word more
 one_literal : (i : ℕ) (ls : Lits) (w : List ℕ) (l : Literal) → w ≡ literal_word l
     → decimal i ∷ map literal_word (ls ++ l ∷ []) ≡ (decimal i ∷ map literal_word ls) ++ w ∷ []
 one_literal i ls w l e =
     ap (λ (ws : List (List ℕ)). decimal i ∷ ws)
     (map-append literal_word ls (l ∷ []) ∙ ap (λ (u : List ℕ). map literal_word ls ++ u ∷ []) (sym e))
 
+-- the words of a clause's beginning with the 0 behind its literals are one word more
 literals_end : (i : ℕ) (ls : Lits) (w : List ℕ) → w ≡ zero_word
     → decimal i ∷ ((map literal_word ls ++ (zero_word ∷ [])) ++ []) ≡ (decimal i ∷ map literal_word ls) ++ w ∷ []
 literals_end i ls w e =
     ap (λ (ws : List (List ℕ)). decimal i ∷ ws)
     (append-nil (map literal_word ls ++ (zero_word ∷ [])) ∙ ap (λ (u : List ℕ). map literal_word ls ++ u ∷ []) (sym e))
 
+-- the words of a clause's beginning with one more antecedent are one word more
 one_antecedent : (i : ℕ) (front : List (List ℕ)) (xs : List ℕ) (w : List ℕ) (x : ℕ) → w ≡ decimal x
     → decimal i ∷ (front ++ map decimal (xs ++ x ∷ [])) ≡ (decimal i ∷ (front ++ map decimal xs)) ++ w ∷ []
 one_antecedent i front xs w x e =
@@ -92,6 +98,7 @@ one_antecedent i front xs w x e =
     ∙ sym (append_assoc front (map decimal xs) (decimal x ∷ []))
     ∙ ap (λ (u : List ℕ). (front ++ map decimal xs) ++ u ∷ []) (sym e))
 
+-- the words of a clause with the 0 at its end are one word more
 antecedents_end : (i : ℕ) (front : List (List ℕ)) (xs : List ℕ) (w : List ℕ) → w ≡ zero_word
     → decimal i ∷ (front ++ (map decimal xs ++ (zero_word ∷ []))) ≡ (decimal i ∷ (front ++ map decimal xs)) ++ w ∷ []
 antecedents_end i front xs w e =
@@ -99,6 +106,7 @@ antecedents_end i front xs w e =
     (sym (append_assoc front (map decimal xs) (zero_word ∷ []))
     ∙ ap (λ (u : List ℕ). (front ++ map decimal xs) ++ u ∷ []) (sym e))
 
+-- a clause's index and its literals with 0 are the beginning of a clause
 stated_clause : (v i : ℕ) (ls : Lits) → IsIndex i → AreLiterals ls → IsPart v (among_antecedents i (Some ls) [])
 stated_clause v i ls h k = record {
   low = h.0;
@@ -108,6 +116,7 @@ stated_clause v i ls h k = record {
   sign = λ e. absurd (cc);
 }
 
+-- a clause's index, the sign and an antecedent are the beginning of a clause, in versions but 1
 sign_clause : (v i x : ℕ) → IsIndex i → v ≢ 1 → IsIndex x → IsPart v (among_antecedents i None (x ∷ []))
 sign_clause v i x h other k = record {
   low = h.0;
@@ -117,6 +126,7 @@ sign_clause v i x h other k = record {
   sign = λ e. (other, longer [] x);
 }
 
+-- the beginning of a clause with one more antecedent is one too
 longer_clause : (v i : ℕ) (stated : Option Lits) (xs : List ℕ) (x : ℕ) → IsPart v (among_antecedents i stated xs) → IsIndex x
     → IsPart v (among_antecedents i stated (xs ++ x ∷ []))
 longer_clause v i stated xs x h k = record {
@@ -127,18 +137,23 @@ longer_clause v i stated xs x h k = record {
   sign = λ e. ((h.sign e).0, longer xs x);
 }
 
+-- behind the 0 that ends the literals antecedents stand
 role_zero : (w : List ℕ) → w ≡ zero_word → role_after literal w ≡ antecedent
 role_zero w e = rw (word_zero w e) refl
 
+-- behind a literal another literal or 0 stands
 role_literal : (w : List ℕ) (l : Literal) → SpellsLiteral w l → role_after literal w ≡ literal
 role_literal w l h = rw (literal_nonzero w l h) refl
 
+-- behind an index and 0 antecedents stand
 first_zero : (w : List ℕ) → w ≡ zero_word → role_after first w ≡ antecedent
 first_zero w e = rw (zero_unsigned w e, word_zero w e) refl
 
+-- behind an index and a literal another literal or 0 stands
 first_literal : (w : List ℕ) (l : Literal) → SpellsLiteral w l → role_after first w ≡ literal
 first_literal w l h = rw (literal_unsigned w l h, literal_nonzero w l h) refl
 
+-- behind an index and the sign an antecedent stands
 first_sign : (w : List ℕ) → w ≡ sign_word → role_after first w ≡ behind_sign
 first_sign w e = rw (word_sign w e) refl
 
@@ -210,6 +225,7 @@ pub record IsOpen (ws : List (List ℕ)) (r : Role) : Type 0 where
   pub role : role_behind index ws ≡ r
   pub inside : (front back : List (List ℕ)) → ws ≡ front ++ back → AreWhole front → front ≡ []
 
+-- no words have only no words as a beginning
 nothing_split : (front back : List (List ℕ)) → [] ≡ front ++ back → front ≡ []
 nothing_split [] back e = refl
 nothing_split (f ∷ front) back e = absurd (cc)
@@ -218,6 +234,7 @@ nothing_split (f ∷ front) back e = absurd (cc)
 pub IsOpen-empty : IsOpen [] index
 IsOpen-empty = record { role = refl; inside = λ front back e whole. nothing_split front back e }
 
+-- a beginning of words with one more is all of them or one of those before it
 front_split : (ws : List (List ℕ)) (w : List ℕ) (front back : List (List ℕ)) → ws ++ w ∷ [] ≡ front ++ back
     → (front ≡ ws ++ w ∷ []) ⊎ ((rest : List (List ℕ)) × (ws ≡ front ++ rest))
 front_split ws w [] back e = inr (ws, refl)

@@ -38,20 +38,25 @@ StepsTo v (among_antecedents i stated xs) w n =
 abbrev gives : Next → Result Next TraceError
 gives n = Ok n
 
+-- a step that fails so
 abbrev fails : TraceError → Result Next TraceError
 fails f = Err f
 
+-- two steps that are the same outcome are the same step
 same_step : (m n : Next) → gives m ≡ Ok n → n ≡ m
 same_step m n e = cc
 
+-- a word that is taken as an index spells it
 index_from-ok : (w : Token) (x : ℕ) → index_from w ≡ Ok x → SpellsIndex w.bytes x
 index_from-ok w x e = index_in-word w.bytes x (ok_or_ok (index_in w.bytes) (Syntax w.at) x e)
 
+-- a step that takes an index goes on with the one that the word spells
 index_step-ok : (f : ℕ → Next) (w : Token) (n : Next) → (index_from w >>= λ x. Ok (f x)) ≡ Ok n → (x : ℕ) × SpellsIndex w.bytes x × (n ≡ f x)
 index_step-ok f w n e =
     let b = bind_ok (index_from w) (λ x. Ok (f x)) n e in
     (b.0, index_from-ok w b.0 b.1, same_step (f b.0) n b.2)
 
+-- a step among literals goes on with the one that the word spells, or ends them at 0
 literal_step-ok : (i : ℕ) (ls : Lits) (w : Token) (n : Next) → literal_step i ls w ≡ Ok n → LiteralStep i ls w.bytes n
 literal_step-ok i ls w n e = elim (cases_Bool (is_zero w.bytes)) [
   | inl zero ↦ inl (is_zero-word w.bytes zero, same_step (goes_on (among_antecedents i (Some ls) [])) n (rw zero at e))
@@ -60,10 +65,12 @@ literal_step-ok i ls w n e = elim (cases_Bool (is_zero w.bytes)) [
       inr (b.0, literal_in-word w.bytes b.0 (ok_or_ok (literal_in w.bytes) (Syntax w.at) b.0 b.1), same_step (goes_on (among_lits i (ls ++ b.0 ∷ []))) n b.2)
 ]
 
+-- a version in which the sign can stand isn't 1
 not_one : (v : ℕ) → has_sign v ≡ true → v ≢ 1
 not_one v h e = let same : (v == 1) ≡ true = eq-eqb v 1 e in let clash : has_sign v ≡ false = ap not same in absurd (cc)
 
-other_one : (v : ℕ) → v ≢ 1 → has_sign v ≡ true
+-- the sign can stand in each version but 1
+pub other_one : (v : ℕ) → v ≢ 1 → has_sign v ≡ true
 other_one v h = ap not (ne_eqb v 1 h)
 
 -- a step that is computed is one of these
@@ -84,9 +91,11 @@ step-ok v (among_antecedents i stated xs) w n e = elim (cases_Bool (is_zero w.by
 
 -- ---- each of these is computed
 
+-- a word that spells an index is taken as it
 index_step-from : (f : ℕ → Next) (w : Token) (x : ℕ) → SpellsIndex w.bytes x → (index_from w >>= λ y. Ok (f y)) ≡ Ok (f x)
 index_step-from f w x h = ap (λ (o : Option ℕ). ok_or o (Syntax w.at) >>= λ y. Ok (f y)) (word_index w.bytes x h)
 
+-- a word that spells a literal is taken as it, and 0 as the end of the literals
 literal_step-from : (i : ℕ) (ls : Lits) (w : Token) (n : Next) → LiteralStep i ls w.bytes n → literal_step i ls w ≡ Ok n
 literal_step-from i ls w n (inl h) = let zero : is_zero w.bytes ≡ true = word_zero w.bytes h.0 in rw zero (ap Ok (sym h.1))
 literal_step-from i ls w n (inr h) =
@@ -94,11 +103,13 @@ literal_step-from i ls w n (inr h) =
     let one : literal_in w.bytes ≡ Some h.0 = word_literal w.bytes h.0 h.1 in
     rw (other, one) (ap Ok (sym h.2))
 
+-- a literal and 0 aren't the sign
 literal_step-unsigned : (i : ℕ) (ls : Lits) (w : List ℕ) (n : Next) → LiteralStep i ls w n → is_sign w ≡ false
 literal_step-unsigned i ls w n (inl h) = zero_unsigned w h.0
 literal_step-unsigned i ls w n (inr h) = literal_unsigned w h.0 h.1
 
-no_sign : (b c : Bool) → c ≡ false → (b && c) ≡ false
+-- where the second test fails, both don't pass
+pub no_sign : (b c : Bool) → c ≡ false → (b && c) ≡ false
 no_sign true c e = e
 no_sign false c e = refl
 
@@ -129,6 +140,7 @@ role_of (among_lits i ls) = literal
 role_of (reading.behind_sign i) = behind_sign
 role_of (among_antecedents i stated xs) = antecedent
 
+-- what is taken among literals is a literal or 0
 literal_stands : (i : ℕ) (ls : Lits) (w : List ℕ) (n : Next) → LiteralStep i ls w n → IsLiteralWord w ⊎ (w ≡ zero_word)
 literal_stands i ls w n (inl h) = inr h.0
 literal_stands i ls w n (inr h) = inl (h.0, h.1)
@@ -143,6 +155,7 @@ steps-stand v (reading.behind_sign i) w n h = (h.0, h.1)
 steps-stand v (among_antecedents i stated xs) w n (inl h) = inr h.0
 steps-stand v (among_antecedents i stated xs) w n (inr h) = inl (h.0, h.1)
 
+-- a literal and 0 are taken among literals
 literal_stand-steps : (i : ℕ) (ls : Lits) (w : List ℕ) → IsLiteralWord w ⊎ (w ≡ zero_word) → (n : Next) × LiteralStep i ls w n
 literal_stand-steps i ls w (inl h) = (goes_on (among_lits i (ls ++ h.0 ∷ [])), inr (h.0, h.1, refl))
 literal_stand-steps i ls w (inr h) = (goes_on (among_antecedents i (Some ls) []), inl (h, refl))
@@ -159,15 +172,18 @@ stand-steps v (among_antecedents i stated xs) w (inr h) = (is_whole (record { in
 
 -- ---- a step that fails
 
+-- a step that goes on has no fault
 never_fails : (n : Next) (f : TraceError) → gives n ≡ Err f → ⊥
 never_fails n f e = absurd (cc)
 
+-- a word that isn't taken as an index is the fault
 index_step-err : (g : ℕ → Next) (w : Token) (f : TraceError) → (index_from w >>= λ x. Ok (g x)) ≡ Err f → f ≡ Syntax w.at
 index_step-err g w f e = elim (bind_err (index_from w) (λ x. Ok (g x)) f e) [
   | inl one ↦ sym (ok_or_err (index_in w.bytes) (Syntax w.at) f one).1
   | inr more ↦ absurd (never_fails (g more.0) f more.2)
 ]
 
+-- a word that isn't taken among literals is the fault
 literal_step-err : (i : ℕ) (ls : Lits) (w : Token) (f : TraceError) → literal_step i ls w ≡ Err f → f ≡ Syntax w.at
 literal_step-err i ls w f e = elim (cases_Bool (is_zero w.bytes)) [
   | inl zero ↦ absurd (never_fails (goes_on (among_antecedents i (Some ls) [])) f (rw zero at e))

@@ -64,6 +64,7 @@ stand_can v before t p w h k = subst (λ r. CanStandAs v r w) h.role k
 
 -- ---- one token more
 
+-- the words up to behind a token are those of the whole clauses, those of the open one and the token's
 words_more : (v : ℕ) (before : List Token) (w : Token) (t : List Entry) (p : Part) → (h : Stands v before t p)
     → words_of (before ++ w ∷ []) ≡ flat_map clause_words h.spelled ++ (open_words p ++ w.bytes ∷ [])
 words_more v before w t p h =
@@ -71,6 +72,7 @@ words_more v before w t p h =
     ∙ ap (λ (ws : List (List ℕ)). ws ++ w.bytes ∷ []) h.parts
     ∙ append_assoc (flat_map clause_words h.spelled) (open_words p) (w.bytes ∷ [])
 
+-- the role of the word behind a token follows from the token and the open clause
 role_more : (v : ℕ) (before : List Token) (w : Token) (t : List Entry) (p : Part) → Stands v before t p
     → role_behind index (words_of (before ++ w ∷ [])) ≡ role_after (role_of p) w.bytes
 role_more v before w t p h =
@@ -78,6 +80,7 @@ role_more v before w t p h =
     ∙ role_behind-snoc index (words_of before) w.bytes
     ∙ ap (λ r. role_after r w.bytes) h.role
 
+-- tokens that can stand with one that leads on are tokens that can stand
 each_more : (v : ℕ) (before : List Token) (w : Token) (t : List Entry) (p : Part) (n : Next) → Stands v before t p → StepsTo v p w.bytes n → EachCanStand v (before ++ w ∷ [])
 each_more v before w t p n h k = EachCanStand-snoc v before w h.each (can_stand v before t p w.bytes h (steps-stand v p w.bytes n k))
 
@@ -100,21 +103,26 @@ stands-goes_on v before w t p q h e =
       each = each_more v before w t p (goes_on q) h steps;
     }
 
+-- literals as they are spelled are the same set as their clause
 same_stated : (o : Option Lits) → SameStated o (option_map clause_of o)
 same_stated None = tt
 same_stated (Some ls) = same_sym (clause_of ls) ls (SameSet-clause_of ls)
 
+-- literals within the limits have a clause
 clause_stated : (o : Option Lits) → ((l : Literal) → Has (literals_in o) l → IsLiteral l) → IsClause (literals_in (option_map clause_of o))
 clause_stated None h = record { literals = λ l k. absurd k; ordered = tt }
 clause_stated (Some ls) h = record { literals = λ l k. h l ((SameSet-clause_of ls l).0 k); ordered = IsOrdered-clause_of ls }
 
+-- where the clause has no stated literals, none are spelled
 none_stated : (o : Option Lits) → option_map clause_of o ≡ None → o ≡ None
 none_stated None e = refl
 none_stated (Some ls) e = absurd (cc)
 
+-- where the mapped list is empty, so is the list
 same_number : (xs ys : List ℕ) (f : ℕ → ℕ) → map f xs ≡ ys → xs ≡ [] → ys ≡ []
 same_number xs ys f e h = sym e ∙ ap (map f) h
 
+-- a right clause, with the places of its antecedents, can follow the trace
 follows : (v : ℕ) (t u : List Entry) (s : Spelled) → IsSpelledClause v s → (new : IsPlaced t s u) → CanFollow t (entry_of s new.places)
 follows v t u s h new = record {
   low = h.low;
@@ -125,6 +133,7 @@ follows v t u s h new = record {
   earlier = new.within;
 }
 
+-- the clause that was appended is spelled as it was read
 spelled_last : (t u : List Entry) (s : Spelled) → (new : IsPlaced t s u) → IsSpelled (t ++ entry_of s new.places ∷ []) s (entry_of s new.places)
 spelled_last t u s new = record {
   index = refl;
@@ -132,6 +141,7 @@ spelled_last t u s new = record {
   antecedents = sym new.antecedents ∙ indices-before t (entry_of s new.places) new.places new.within;
 }
 
+-- in version 1 each clause is still stated with a right one appended
 still_stated : (v : ℕ) (t u : List Entry) (s : Spelled) → (v ≡ 1 → AllStated t) → IsSpelledClause v s → (new : IsPlaced t s u) → v ≡ 1 → AllStated (t ++ entry_of s new.places ∷ [])
 still_stated v t u s h clause new one =
     AllStated-snoc t (entry_of s new.places) (h one) (λ e. (clause.sign (none_stated s.stated e)).0 one)
@@ -163,6 +173,7 @@ stands-whole v before w t u p s h e right =
 
 -- ---- faults
 
+-- the words of the whole clauses are those of the trace that was read
 spells_whole : (v : ℕ) (before : List Token) (t : List Entry) (p : Part) → (h : Stands v before t p) → SpellsTrace v (flat_map clause_words h.spelled) t
 spells_whole v before t p h = record {
   trace = h.trace;
@@ -172,6 +183,7 @@ spells_whole v before t p h = record {
   same_words = refl;
 }
 
+-- what was read are the words of the trace, and then those of no whole clause
 stands_before : (v : ℕ) (before : List Token) (t : List Entry) (p : Part) → Stands v before t p → StandsBefore v t (words_of before)
 stands_before v before t p h = record {
   whole = flat_map clause_words h.spelled;
@@ -181,6 +193,7 @@ stands_before v before t p h = record {
   none_whole = h.opened.inside;
 }
 
+-- a token that can't stand in the open clause is the first bad one
 cannot_stand : (v : ℕ) (all before ts : List Token) (w : Token) (t : List Entry) (p : Part) → all ≡ before ++ (w ∷ ts) → Stands v before t p
     → (CanStandAs v (role_of p) w.bytes → ⊥) → FirstBad v all w
 cannot_stand v all before ts w t p e h bad = record {
@@ -193,6 +206,7 @@ cannot_stand v all before ts w t p e h bad = record {
   right = stands_before v before t p h;
 }
 
+-- an end within the open clause is an end inside a clause
 ends_inside : (v : ℕ) (before : List Token) (t : List Entry) (p : Part) → Stands v before t p → (role_of p ≡ index → ⊥) → EndsInside v before
 ends_inside v before t p h inside = record {
   each = h.each;
@@ -218,6 +232,7 @@ first_judged v all before ts w t p s e h k =
           ∙ ap (λ (ws : List (List ℕ)). flat_map clause_words h.spelled ++ (ws ++ words_of ts)) (sym more.words);
     }
 
+-- the fault of the clause that is judged first is the fault of the text
 judged_fault : (v end : ℕ) (all : List Token) (t : List Entry) (s : Spelled) (f : TraceError) → FirstJudged v (words_of all) t s → IsJudged t s f → FaultOf v end all f
 judged_fault v end all t s f h (inl twice) = subst (FaultOf v end all) (sym twice.1) (t, s, h, twice.0, refl)
 judged_fault v end all t s f h (inr lost) = subst (FaultOf v end all) (sym lost.3) (t, s, h, lost.1, refl, lost.2)
@@ -229,6 +244,7 @@ abbrev pub Means : ℕ → ℕ → List Token → Result (List Entry) TraceError
 Means v end all (Ok u) = SpellsTrace v (words_of all) u
 Means v end all (Err f) = FaultOf v end all f
 
+-- where no clause is open, the words are those of the trace
 all_read : (v : ℕ) (before : List Token) (t : List Entry) → Stands v before t start → SpellsTrace v (words_of before) t
 all_read v before t h = record {
   trace = h.trace;
@@ -238,9 +254,11 @@ all_read v before t h = record {
   same_words = h.parts ∙ append-nil (flat_map clause_words h.spelled);
 }
 
+-- an end within the open clause is the fault of the text
 bad_end : (v end : ℕ) (before : List Token) (t : List Entry) (p : Part) → Stands v before t p → (role_of p ≡ index → ⊥) → FaultOf v end before (Syntax end)
 bad_end v end before t p h inside = inr (ends_inside v before t p h inside, refl)
 
+-- at the end of the tokens what was read is the trace, or an end inside a clause
 at_end : (v end : ℕ) (before : List Token) (t : List Entry) (p : Part) → Stands v before t p → Means v end before (trace_from v end [] t p)
 at_end v end before t start h = all_read v before t h
 at_end v end before t (behind_index i) h = bad_end v end before t (behind_index i) h (λ e. cc)
@@ -252,6 +270,7 @@ at_end v end before t (among_antecedents i stated xs) h = bad_end v end before t
 abbrev GoesOn : ℕ → ℕ → List Token → List Token → List Token → Type 0
 GoesOn v end all before ts = (u : List Entry) (q : Part) → Stands v before u q → Means v end all (trace_from v end ts u q)
 
+-- a token that ends a clause gives the fault of its judgement, or what the later tokens mean
 judged_next : (v end : ℕ) (all before ts : List Token) (w : Token) (t : List Entry) (p : Part) (s : Spelled) (r : Result (List Entry) TraceError)
     → all ≡ before ++ (w ∷ ts) → Stands v before t p → step v p w ≡ Ok (is_whole s) → judged t s ≡ r → GoesOn v end all (before ++ w ∷ []) ts
     → Means v end all (trace_from v end (w ∷ ts) t p)
@@ -264,6 +283,7 @@ judged_next v end all before ts w t p s (Err f) e h k wrong rest =
     trace_from-whole v end w ts t p s k ∙ ap (λ (r : Result (List Entry) TraceError). r >>= λ x. trace_from v end ts x start) wrong in
     subst (Means v end all) (sym same) (judged_fault v end all t s f (first_judged v all before ts w t p s e h k) (judged-err t s f wrong))
 
+-- a token gives its fault, or what the later tokens mean
 next : (v end : ℕ) (all before ts : List Token) (w : Token) (t : List Entry) (p : Part) (r : Result Next TraceError)
     → all ≡ before ++ (w ∷ ts) → Stands v before t p → step v p w ≡ r → GoesOn v end all (before ++ w ∷ []) ts
     → Means v end all (trace_from v end (w ∷ ts) t p)
@@ -274,6 +294,7 @@ next v end all before ts w t p (Err f) e h k rest =
     let same : trace_from v end (w ∷ ts) t p ≡ Err (Syntax w.at) = trace_from-fault v end w ts t p f k ∙ ap Err (step-err v p w f k) in
     subst (Means v end all) (sym same) (inl (w, cannot_stand v all before ts w t p e h (step-cannot v p w f k), refl))
 
+-- what is read of the tokens from here on is the trace or the fault of the whole text
 from_here : (v end : ℕ) (all before ts : List Token) (t : List Entry) (p : Part) → all ≡ before ++ ts → Stands v before t p
     → Means v end all (trace_from v end ts t p)
 from_here v end all before [] t p e h =

@@ -34,6 +34,7 @@ goes v end w ts t p q h = trace_from-goes_on v end w ts t p q (step-from v p w (
 abbrev ReadsTo : ℕ → ℕ → List Token → List Entry → Part → List (List ℕ) → Part → Type 0
 ReadsTo v end ts t p rest q = (us : List Token) × (words_of us ≡ rest) × (trace_from v end ts t p ≡ trace_from v end us t q)
 
+-- the words of literals and 0 are read as them, behind those that were there
 read_lits : (v end : ℕ) (ts : List Token) (t : List Entry) (i : ℕ) (before ls : Lits) (rest : List (List ℕ)) → AreLiterals ls
     → words_of ts ≡ map literal_word ls ++ (zero_word ∷ rest)
     → ReadsTo v end ts t (among_lits i before) rest (among_antecedents i (Some (before ++ ls)) [])
@@ -74,6 +75,7 @@ read_stated v end (w ∷ ts) t i (l ∷ ls) rest h e =
     let more = read_lits v end ts t i (l ∷ []) ls rest (λ m k. h m (inr k)) behind in
     (more.0, more.1, goes v end w ts t (behind_index i) (among_lits i (l ∷ [])) (inr (inr (l, (h l (inl refl), word), refl))) ∙ more.2)
 
+-- a clause as it is spelled
 abbrev clause : ℕ → Option Lits → List ℕ → Spelled
 clause i stated xs = record { index = i; stated = stated; antecedents = xs }
 
@@ -85,9 +87,11 @@ behind_clause v end us t s = judged t s >>= λ u. trace_from v end us u start
 abbrev ReadsClause : ℕ → ℕ → List Token → List Entry → Part → List (List ℕ) → Spelled → Type 0
 ReadsClause v end ts t p rest s = (us : List Token) × (words_of us ≡ rest) × (trace_from v end ts t p ≡ behind_clause v end us t s)
 
+-- the word of an index spells it
 index_step : (xs : List ℕ) (x : ℕ) (w : List ℕ) → AreIndices (x ∷ xs) → w ≡ decimal x → SpellsIndex w x
 index_step xs x w h e = let range = h x (inl refl) in (e, range.0, range.1)
 
+-- the words of antecedents and 0 are read as them, and end the clause
 read_antecedents : (v end : ℕ) (ts : List Token) (t : List Entry) (i : ℕ) (stated : Option Lits) (before xs : List ℕ) (rest : List (List ℕ)) → AreIndices xs
     → words_of ts ≡ map decimal xs ++ (zero_word ∷ rest)
     → ReadsClause v end ts t (among_antecedents i stated before) rest (clause i stated (before ++ xs))
@@ -142,6 +146,7 @@ read_rest v end ts t i (Some ls) xs rest h e =
     let more = read_antecedents v end lits.0 t i (Some ls) [] xs rest h.antecedents lits.1 in
     (more.0, more.1, lits.2 ∙ more.2)
 
+-- the words of a clause behind its index, and then more, are those of its parts one by one
 clause_behind : (stated : Option Lits) (xs : List ℕ) (rest : List (List ℕ))
     → (stated_words stated ++ (map decimal xs ++ (zero_word ∷ []))) ++ rest ≡ stated_words stated ++ (map decimal xs ++ (zero_word ∷ rest))
 clause_behind stated xs rest =
@@ -161,11 +166,13 @@ read_clause v end (w ∷ ts) t s rest h e =
 
 -- ---- its judgement
 
+-- the elements of the first list come first
 slice_get-front : {X : Type 0} (xs ys : List X) (k : ℕ) → k < length xs → slice_get (xs ++ ys) k ≡ slice_get xs k
 slice_get-front [] ys k lt = absurd (omega arith)
 slice_get-front (x ∷ xs) ys zero lt = refl
 slice_get-front (x ∷ xs) ys (suc k) lt = slice_get-front xs ys k (omega arith)
 
+-- the element behind a list stands at the place of the list's length
 slice_get-middle : {X : Type 0} (xs ys : List X) (y : X) → slice_get (xs ++ y ∷ ys) (length xs) ≡ Some y
 slice_get-middle [] ys y = refl
 slice_get-middle (x ∷ xs) ys y = slice_get-middle xs ys y
@@ -174,11 +181,13 @@ slice_get-middle (x ∷ xs) ys y = slice_get-middle xs ys y
 abbrev AreDistinct : List Entry → Type 0
 AreDistinct t = (j k : ℕ) → j < k → k < length t → index_at t j ≢ index_at t k
 
+-- the index of a clause has the clause's place
 place_found : (t : List Entry) (p : ℕ) → AreDistinct t → p < length t → place_of (indices_of t) (index_at t p) ≡ Some p
 place_found t p d lt =
     let same : 0 + p ≡ p = omega arith in
     place_from-found 0 p t (index_at t p) lt refl (λ j below. d j p below lt) ∙ ap Some same
 
+-- the indices of antecedents have their places
 places_found : (t : List Entry) (before ps : List ℕ) → AreDistinct t → AreWithin t ps
     → places_from (indices_of t) before (map (index_at t) ps) ≡ Ok (before ++ ps)
 places_found t before [] d h = ap Ok (sym (append-nil before))
@@ -188,6 +197,7 @@ places_found t before (p ∷ ps) d h =
     ∙ places_found t (before ++ p ∷ []) ps d (λ q i. h q (inr i))
     ∙ ap Ok (append_assoc before (p ∷ []) ps)
 
+-- a clause with a new index, whose antecedents have places, is appended
 judged-placed : (t : List Entry) (s : Spelled) (ps : List ℕ) → ((j : ℕ) → j < length t → index_at t j ≢ s.index)
     → places_from (indices_of t) [] s.antecedents ≡ Ok ps → judged t s ≡ Ok (t ++ entry_of s ps ∷ [])
 judged-placed t s ps other h =
@@ -202,6 +212,7 @@ record StandsBehind (t done : List Entry) (s : Spelled) (e : Entry) : Type 0 whe
   before : (k : ℕ) → k < length done → slice_get t k ≡ slice_get done k
   spelled : IsSpelled t s e
 
+-- a clause of a trace stands behind those before it
 stands_behind : (t done es : List Entry) (s : Spelled) (e : Entry) → IsTrace t → t ≡ done ++ e ∷ es → IsSpelled t s e → StandsBehind t done s e
 stands_behind t done es s e h parts spelled = record {
   trace = h;
@@ -211,12 +222,15 @@ stands_behind t done es s e h parts spelled = record {
   spelled = spelled;
 }
 
+-- the antecedents of a clause are of the clauses before it
 antecedent_before : (t done : List Entry) (s : Spelled) (e : Entry) → StandsBehind t done s e → AreWithin done e.antecedents
 antecedent_before t done s e h p i = h.trace.earlier (length done) p (subst (λ (o : Option Entry). Has (antecedents_of o) p) (sym h.here) i)
 
+-- the clauses before a clause have the indices that the trace gives them
 index_before : (t done : List Entry) (s : Spelled) (e : Entry) → StandsBehind t done s e → (k : ℕ) → k < length done → index_at t k ≡ index_at done k
 index_before t done s e h k lt = ap index_of (h.before k lt)
 
+-- the antecedents of a clause have the same indices in the clauses before it as in the trace
 same_indices : (t done : List Entry) (ps : List ℕ) → ((k : ℕ) → k < length done → index_at t k ≡ index_at done k) → AreWithin done ps
     → map (index_at t) ps ≡ map (index_at done) ps
 same_indices t done [] same h = refl
@@ -224,23 +238,28 @@ same_indices t done (p ∷ ps) same h =
     ap (λ (n : ℕ). n ∷ map (index_at t) ps) (same p (h p (inl refl)))
     ∙ ap (λ (ns : List ℕ). index_at done p ∷ ns) (same_indices t done ps same (λ q i. h q (inr i)))
 
+-- the clauses before a clause have distinct indices
 distinct_before : (t done : List Entry) (s : Spelled) (e : Entry) → StandsBehind t done s e → AreDistinct done
 distinct_before t done s e h j k lt within same =
     let place : length done < length t = h.place in
     h.trace.distinct j k lt (omega arith) (index_before t done s e h j (omega arith) ∙ same ∙ sym (index_before t done s e h k within))
 
+-- the clause has the index that is spelled
 index_here : (t done : List Entry) (s : Spelled) (e : Entry) → StandsBehind t done s e → index_at t (length done) ≡ s.index
 index_here t done s e h = ap index_of h.here ∙ sym h.spelled.index
 
+-- the clause's stated literals are within the limits and in their order
 clause_here : (t done : List Entry) (s : Spelled) (e : Entry) → StandsBehind t done s e → IsClause (literals_in e.stated)
 clause_here t done s e h = subst (λ (o : Option Entry). IsClause (literals_in (stated_of o))) h.here (h.trace.clauses (length done) h.place)
 
+-- the clause of the spelled literals is the stated one
 same_clause : (o c : Option Lits) → SameStated o c → IsClause (literals_in c) → option_map clause_of o ≡ c
 same_clause None None h k = refl
 same_clause None (Some c) h k = absurd h
 same_clause (Some ls) None h k = absurd h
 same_clause (Some ls) (Some c) h k = ap Some (sym (clause_of-ordered c ls k.ordered (same_sym ls c h)))
 
+-- a clause of a trace, as it is spelled, is appended to those before it
 judged_right : (t done : List Entry) (s : Spelled) (e : Entry) → StandsBehind t done s e → judged done s ≡ Ok (done ++ e ∷ [])
 judged_right t done s e h =
     let within = antecedent_before t done s e h in
@@ -256,29 +275,36 @@ judged_right t done s e h =
 
 -- ---- its numbers are within their limits
 
+-- the indices of a trace are within the limits
 index_within : (t : List Entry) (k x : ℕ) → IsTrace t → k < length t → index_at t k ≡ x → (1 ≤ x) × (x ≤ MAX_INDEX)
 index_within t k x h lt e = (subst (λ (n : ℕ). 1 ≤ n) e (h.low k lt), subst (λ (n : ℕ). n ≤ MAX_INDEX) e (h.high k lt))
 
+-- literals that spell a clause are within the limits
 stated_within : (o c : Option Lits) → SameStated o c → IsClause (literals_in c) → AreLiterals (literals_in o)
 stated_within None c h k l i = absurd i
 stated_within (Some ls) None h k l i = absurd h
 stated_within (Some ls) (Some c) h k l i = k.literals l ((h l).0 i)
 
+-- only an empty list has an empty mapped one
 nothing_mapped : (f : ℕ → ℕ) (xs : List ℕ) → map f xs ≡ [] → xs ≡ []
 nothing_mapped f [] e = refl
 nothing_mapped f (x ∷ xs) e = absurd (cc)
 
+-- where the sign is spelled, it stands
 none_here : (o c : Option Lits) → SameStated o c → o ≡ None → c ≡ None
 none_here None None h e = refl
 none_here None (Some c) h e = absurd h
 none_here (Some ls) c h e = absurd (cc)
 
+-- where the sign is spelled, the trace's clause has it
 compact_here : (t done : List Entry) (s : Spelled) (e : Entry) → StandsBehind t done s e → s.stated ≡ None → IsCompactAt t (length done)
 compact_here t done s e h none = ap stated_of h.here ∙ none_here s.stated e.stated h.spelled.stated none
 
+-- a clause without spelled antecedents has none
 no_antecedents : (t done : List Entry) (s : Spelled) (e : Entry) → StandsBehind t done s e → s.antecedents ≡ [] → antecedents_at t (length done) ≡ []
 no_antecedents t done s e h none = ap antecedents_of h.here ∙ nothing_mapped (index_at t) e.antecedents (sym h.spelled.antecedents ∙ none)
 
+-- the numbers of a clause of a trace, as it is spelled, are within the limits
 spelled_within : (v : ℕ) (t done : List Entry) (s : Spelled) (e : Entry) → (v ≡ 1 → AllStated t) → StandsBehind t done s e → IsSpelledClause v s
 spelled_within v t done s e signs h =
     let here = index_within t (length done) s.index h.trace h.place (index_here t done s e h) in
@@ -299,6 +325,7 @@ spelled_within v t done s e signs h =
 
 -- ---- the whole text
 
+-- the words of clauses of a trace, behind the clauses before them, are read as these
 written_all : (v end : ℕ) (t : List Entry) (ts : List Token) (done es : List Entry) (ss : List Spelled) (rest : List (List ℕ)) → IsTrace t → (v ≡ 1 → AllStated t) → t ≡ done ++ es
     → AreSpelled t ss es → words_of ts ≡ flat_map clause_words ss ++ rest
     → (us : List Token) × (words_of us ≡ rest) × (trace_from v end ts done start ≡ trace_from v end us t start)
@@ -323,6 +350,7 @@ pub spelled_read : (v end : ℕ) (t : List Entry) (ts : List Token) (whole rest 
 spelled_read v end t ts whole rest h e =
     written_all v end t ts [] t h.spelled rest h.trace h.signs refl h.same_clauses (e ∙ ap (λ (ws : List (List ℕ)). ws ++ rest) h.same_words)
 
+-- without more words, what was read is the trace
 read_to_end : (v end : ℕ) (t : List Entry) (us : List Token) → words_of us ≡ [] → trace_from v end us t start ≡ Ok t
 read_to_end v end t [] e = refl
 read_to_end v end t (w ∷ us) e = absurd (cc)

@@ -9,14 +9,16 @@ ghost use Rattle.sat_text_defs.specs.TraceReading.{trace_in};
 
 /// The trace that is computed of a text is the one whose text it is.
 pub fn trace_of_a_text_is_computed()
-    ensures { (text : List ℕ) (v : ℕ) (t : List Entry) → (trace_in v text ≡ Ok t) ↔ TraceText text v t }
+    ensures { (text : List ℕ) (v : ℕ) (t : List Entry)
+        → (trace_in v text ≡ Ok t) ↔ TraceText text v t }
 {}
 
 /// The fault that is computed of a text is the one that the text has: too many bytes, the first word that
 /// can't stand where it does, the first clause that the ones before it don't allow, or an end inside a
 /// clause.
 pub fn fault_of_a_trace_text_is_computed()
-    ensures { (text : List ℕ) (v : ℕ) (f : TraceError) → (trace_in v text ≡ Err f) ↔ TraceTextFault text v f }
+    ensures { (text : List ℕ) (v : ℕ) (f : TraceError)
+        → (trace_in v text ≡ Err f) ↔ TraceTextFault text v f }
 {}
 
 /// A text has one trace, or else one fault, in each version.
@@ -29,6 +31,11 @@ pub fn text_has_one_trace_or_fault()
         → TraceTextFault text v f → TraceTextFault text v g → f ≡ g }
     ensures not_both { (text : List ℕ) (v : ℕ) (t : List Entry) (f : TraceError)
         → TraceText text v t → TraceTextFault text v f → ⊥ }
+{}
+
+/// All versions but 1 are read alike: a text has the same trace, or the same fault, in each of them.
+pub fn later_versions_agree()
+    ensures { (text : List ℕ) (v u : ℕ) → v ≢ 1 → u ≢ 1 → trace_in v text ≡ trace_in u text }
 {}
 
 /// A text of version 1 is the text of the same trace in every version, a text of a trace without the sign

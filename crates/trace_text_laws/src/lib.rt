@@ -8,6 +8,6 @@
 mod laws;
 
 pub use laws::{
-    fault_of_a_trace_text_is_computed, text_has_one_trace_or_fault, trace_of_a_text_is_computed,
-    versions_agree_without_the_sign,
+    fault_of_a_trace_text_is_computed, later_versions_agree, text_has_one_trace_or_fault,
+    trace_of_a_text_is_computed, versions_agree_without_the_sign,
 };

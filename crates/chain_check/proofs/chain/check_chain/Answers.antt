@@ -10,6 +10,7 @@ use Rattle.chain_check.proofs.EndLemmas.{fault_err, fault_ok, fault_other}
 use Rattle.chain_check.proofs.KnownLemmas.{end_stated}
 use Rattle.chain_check.proofs.chain.check_chain.Goals as goal
 
+-- a faulty step is the fault of the whole clause
 pub returns-in_err-follow-clause-end : goal.returns-in_err-follow-clause-end
 returns-in_err-follow-clause-end c =
     let t = c.args.t.now in
@@ -18,6 +19,7 @@ returns-in_err-follow-clause-end c =
     subst (ChainFault (index_at t k) (stated_at t k) (map (lits_at t) (antecedents_at t k))) (ap Err (sym p.2) ∙ sym p.1)
     (end_stated t k c.requires.stated _ (fault_err (index_at t k) (lits_at t k) (antecedents_known t [] k) _ (c.in_err-follow.ensures {u = tt}).end))
 
+-- a chain that comes to the stated literals has no fault
 pub returns-then-comes_to-clause-end : goal.returns-then-comes_to-clause-end
 returns-then-comes_to-clause-end c =
     let t = c.args.t.now in
@@ -26,6 +28,7 @@ returns-then-comes_to-clause-end c =
     let same = subst (SameSet c.follow.new.m.running) c.lits.ensures.lits (c.comes_to.ensures.same.0 c.if-comes_to.true) in
     end_stated t k c.requires.stated _ (fault_ok (index_at t k) (lits_at t k) (antecedents_known t [] k) c.follow.new.m.running own.clause same)
 
+-- a chain that comes to other literals has that fault
 pub returns-else-comes_to-clause-end : goal.returns-else-comes_to-clause-end
 returns-else-comes_to-clause-end c =
     let t = c.args.t.now in

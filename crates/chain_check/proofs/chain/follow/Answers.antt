@@ -9,6 +9,7 @@ use Rattle.chain_check.specs.Known.{literals_at}
 use Rattle.chain_check.proofs.ChainLemmas.{Has-get_or, chain_begins, resolves_begins, chain_clashes_often, chain_clashes_never, chain_steps, resolves_steps, chain_stops, resolves_stops, some_antecedent}
 use Rattle.chain_check.proofs.chain.follow.Goals as goal
 
+-- the first antecedent is a clause of the trace
 pub known_literals-requires-clause-within : goal.known_literals-requires-clause-within
 known_literals-requires-clause-within c =
     let ps = c.antecedents-antecedents.result.now in
@@ -16,6 +17,7 @@ known_literals-requires-clause-within c =
     let earlier = c.antecedents-antecedents.ensures.earlier (get_or ps 0 0) (Has-get_or ps 0 some) in
     let within = c.requires.within in omega arith
 
+-- the first antecedent is the running clause that the chain begins with
 pub loop-step-init : goal.loop-step-init
 loop-step-init c =
     let ps = c.antecedents-antecedents.result.now in
@@ -30,12 +32,14 @@ loop-step-init c =
       clause = resolves_begins g (index_at c.args.t.now c.args.k) ps c.load.new.self.running some first;
     }
 
+-- each later antecedent is a clause of the trace
 pub known_literals-requires-in-loop-step-clause-within : goal.known_literals-requires-in-loop-step-clause-within
 known_literals-requires-in-loop-step-clause-within c =
     let ps = c.antecedents-antecedents.result.now in
     let earlier = c.antecedents-antecedents.ensures.earlier (get_or ps c.loop-step.step 0) (Has-get_or ps c.loop-step.step c.loop-step-test.true) in
     let within = c.requires.within in omega arith
 
+-- where no literal clashes, the chain ends with that fault
 pub returns-in-NoClash-clause-end : goal.returns-in-NoClash-clause-end
 returns-in-NoClash-clause-end c =
     let t = c.args.t.now in
@@ -47,6 +51,7 @@ returns-in-NoClash-clause-end c =
     subst (λ (qs : List ℕ). ChainFault (index_at t c.args.k) None (map g qs) (Err (ChainError.NoClash c.index-clause.result step))) c.antecedents-antecedents.ensures.antecedents
     (subst (λ (i : ℕ). ChainFault (index_at t c.args.k) None (map g ps) (Err (ChainError.NoClash i step))) (sym c.index-clause.ensures.index) whole)
 
+-- where several literals clash, the chain ends with that fault
 pub returns-in-ManyClash-clause-end : goal.returns-in-ManyClash-clause-end
 returns-in-ManyClash-clause-end c =
     let t = c.args.t.now in
@@ -58,6 +63,7 @@ returns-in-ManyClash-clause-end c =
     subst (λ (qs : List ℕ). ChainFault (index_at t c.args.k) None (map g qs) (Err (ChainError.ManyClash c.index-clause.result step))) c.antecedents-antecedents.ensures.antecedents
     (subst (λ (i : ℕ). ChainFault (index_at t c.args.k) None (map g ps) (Err (ChainError.ManyClash i step))) (sym c.index-clause.ensures.index) whole)
 
+-- a step leaves what the chain comes to as it is
 pub loop-step-preserved : goal.loop-step-preserved
 loop-step-preserved c =
     let t = c.args.t.now in
@@ -76,6 +82,7 @@ loop-step-preserved c =
       clause = λ q h. c.loop-step.invariant.clause q (resolves_steps g (index_at t c.args.k) ps step r s c.loop-step-test.true one q h);
     }
 
+-- behind the last antecedent the chain has no fault
 pub returns-clause-end : goal.returns-clause-end
 returns-clause-end c =
     let t = c.args.t.now in
@@ -84,6 +91,7 @@ returns-clause-end c =
     subst (λ (qs : List ℕ). ChainFault (index_at t c.args.k) None (map g qs) (Ok tt)) c.antecedents-antecedents.ensures.antecedents
     (c.loop-step.invariant.rest _ (chain_stops g (index_at t c.args.k) ps c.loop-step.step c.loop-step.m.running c.loop-step-test.false))
 
+-- behind the last antecedent the running clause is what follows
 pub returns-clause-clause : goal.returns-clause-clause
 returns-clause-clause c =
     let t = c.args.t.now in

@@ -8,6 +8,7 @@ use Rattle.chain_check.specs.ByPlace.{parts_of}
 use Rattle.chain_check.specs.Known.{literals_at}
 use Rattle.chain_check.proofs.chain.follow.Given as goal
 
+-- the chain from here on comes to what the whole chain comes to
 abbrev pub invariant-loop-step : goal.invariant-loop-step
 invariant-loop-step l = record {
   variables : l.m.variables ≡ l.fn.m.variables;

@@ -9,6 +9,7 @@ use Rattle.chain_check.proofs.ClauseLists.{none_from}
 use Rattle.chain_check.proofs.RoomLemmas.{split_more, gone_more, all_moved}
 use Rattle.chain_check.proofs.room.gather.Goals as goal
 
+-- nothing was moved yet
 pub loop-p-init : goal.loop-p-init
 loop-p-init c = record {
   variables = refl;
@@ -19,12 +20,14 @@ loop-p-init c = record {
   room = refl;
 }
 
+-- each antecedent is a clause of the trace
 pub known_literals-requires-clause-within : goal.known_literals-requires-clause-within
 known_literals-requires-clause-within c =
     let ps = c.antecedents-p-items.result.now in
     let earlier = c.antecedents-p-items.ensures.earlier (get_or ps c.loop-p.p-index 0) (Has-get_or ps c.loop-p.p-index c.loop-p-test.true) in
     let within = c.requires.within in omega arith
 
+-- the literals of one more antecedent were moved
 pub loop-p-preserved : goal.loop-p-preserved
 loop-p-preserved c =
     let g = literals_at c.args.t.now (parts_of c.args.lits.now c.args.spans.now) in
@@ -45,15 +48,18 @@ loop-p-preserved c =
       room = c.move_to.ensures.room ∙ inv.room;
     }
 
+-- where nothing is left, all was moved
 pub returns-then-is_empty-clause-same : goal.returns-then-is_empty-clause-same
 returns-then-is_empty-clause-same c =
     all_moved c.args.m.now.running c.loop-p.list.items c.loop-p.m.running c.loop-p.invariant.split (c.is_empty.ensures.0 c.if-is_empty.true)
 
+-- where nothing is left, as many were moved as there were
 pub returns-then-is_empty-clause-all : goal.returns-then-is_empty-clause-all
 returns-then-is_empty-clause-all c =
     let none = ap length (c.is_empty.ensures.0 c.if-is_empty.true) in
     let all = c.loop-p.invariant.all in omega arith
 
+-- behind the last antecedent nothing is left
 pub returns-clause-all : goal.returns-clause-all
 returns-clause-all c =
     let ps = c.antecedents-p-items.result.now in

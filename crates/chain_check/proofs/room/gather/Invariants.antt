@@ -5,6 +5,7 @@ use Rattle.chain_check.specs.ByPlace.{parts_of}
 use Rattle.chain_check.specs.Known.{literals_at}
 use Rattle.chain_check.proofs.room.gather.Given as goal
 
+-- what was gathered and what is left are the running clause, and no antecedent so far has what is left
 abbrev pub invariant-loop-p : goal.invariant-loop-p
 invariant-loop-p l = record {
   variables : l.m.variables ≡ l.fn.m.variables;

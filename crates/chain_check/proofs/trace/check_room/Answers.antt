@@ -1,6 +1,7 @@
 use Rattle.std.proofs.Common.{arith}
 use Rattle.chain_check.proofs.trace.check_room.Goals as goal
 
+-- a trace without a fault that ends with the empty clause refutes the list
 pub returns-then-ends_empty-clause-sound : goal.returns-then-ends_empty-clause-sound
 returns-then-ends_empty-clause-sound c same =
     let all = c.loop-k-test.false in

@@ -4,6 +4,7 @@ use Rattle.clause_index.proofs.RunLemmas.{clause_at_is}
 use Rattle.clause_index.proofs.IndexLemmas.{IsIndex-slot, IsIndex-run}
 use Rattle.clause_index.proofs.index.add.Goals as goal
 
+-- a clause whose group is full stands in a run
 pub returns-then-not-add : goal.returns-then-not-add
 returns-then-not-add c = record {
   index = IsIndex-run c.args.clauses.now.lists c.args.slots.now.groups c.args.slots.now.tags.items c.args.slots.now.numbers.items
@@ -21,6 +22,7 @@ returns-then-not-add c = record {
       c.add-then-not-add.ensures.added;
 }
 
+-- a clause whose group has room stands in a slot
 pub returns-else-not-add : goal.returns-else-not-add
 returns-else-not-add c = record {
   index = IsIndex-slot c.args.clauses.now.lists c.args.slots.now.groups c.args.slots.now.tags.items c.args.slots.now.numbers.items

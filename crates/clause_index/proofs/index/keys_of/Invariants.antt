@@ -3,6 +3,7 @@ use Rattle.clause_index.specs.Runs.{clause_at}
 use Rattle.clause_index.specs.Slots.{tag_of}
 use Rattle.clause_index.proofs.index.keys_of.Given as goal
 
+-- the first k clauses have their keys
 abbrev pub invariant-loop-k : goal.invariant-loop-k
 invariant-loop-k l = record {
   many : length l.keys.items ≡ l.k;

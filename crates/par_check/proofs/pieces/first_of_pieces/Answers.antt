@@ -12,6 +12,7 @@ use Rattle.chain_check.specs.Known.{IsKnownBefore}
 use Rattle.chain_check.specs.Rooms.{SignsAreRight}
 use Rattle.par_check.proofs.pieces.first_of_pieces.Goals as goal
 
+-- each piece may be checked
 pub collect-requires-clause-ready : goal.collect-requires-clause-ready
 collect-requires-clause-ready g c κs h =
     let ends = c.into_par_iter.ensures in
@@ -22,6 +23,7 @@ collect-requires-clause-ready g c κs h =
     × SignsAreRight t room.limit c.args.end) 0 c.args.pieces (λ i low high. (high, needs.within, needs.known, needs.right)) in
     rw (c.map.ensures.base, c.map.ensures.f, c.with_min_len.ensures.base, ends.0, ends.1) (λ k d lt. (inside k d lt, λ y p. tt))
 
+-- each answer is that of its piece
 pub loop-result-init : goal.loop-result-init
 loop-result-init g c =
     let f = c.args.f.now.clauses in
@@ -44,6 +46,7 @@ loop-result-init g c =
       all = ap length items ∙ AllZip-long R (range_with_len 0 pieces) h.0 zipped ∙ length-range_with_len 0 pieces;
     }
 
+-- the first piece with a fault has the first fault
 pub returns-in-Some : goal.returns-in-Some
 returns-in-Some g c =
     let f = c.args.f.now.clauses in
@@ -55,6 +58,7 @@ returns-in-Some g c =
     let own = pieces_first f t w c.args.end c.args.pieces rs p (Ok None) c.loop-result-test.true c.loop-result.invariant.rest in
     piece_faulty f t w c.args.end c.args.pieces p (get_or rs p (Ok None)) c.in-Some.fault (let lt = c.loop-result-test.true in omega arith) c.loop-result.invariant.right own.0 (c.in_ok-fault.was {u = tt} ∙ ap Ok c.in-Some.is)
 
+-- one more piece has no fault
 pub loop-result-preserved : goal.loop-result-preserved
 loop-result-preserved g c =
     let f = c.args.f.now.clauses in
@@ -69,6 +73,7 @@ loop-result-preserved g c =
       all = c.loop-result.invariant.all;
     }
 
+-- where no piece has a fault, no clause has one
 pub returns : goal.returns
 returns g c =
     let all = c.loop-result.invariant.all in

@@ -3,6 +3,7 @@ use Rattle.clause_laws.proofs.Verdict.{verdict_of_first}
 use Rattle.chain_check.specs.Rooms.{StopsAt, IsFirstFault}
 use Rattle.par_check.proofs.pieces.verdict.Goals as goal
 
+-- the first fault of all places is the verdict
 pub returns-in-Some-fault : goal.returns-in-Some-fault
 returns-in-Some-fault c =
     let f = c.args.f.now.clauses in

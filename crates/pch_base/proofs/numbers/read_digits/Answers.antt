@@ -4,6 +4,7 @@ use Rattle.pch_base.proofs.NumberLemmas.{at_most-above}
 use Rattle.pch_base.proofs.numbers.read_digits.Goals as goal
 use Rattle.pch_base.proofs.numbers.read_digits.Goals.{then-n-max-via-then-n-max, then-n-max-via-else-n-max+then-digit-max}
 
+-- digits that make a number above the greatest spell none within it
 pub returns-then-n-max : goal.returns-then-n-max
 returns-then-n-max c =
     let digit : is_ascii_digit (get_or c.args.text.now c.loop-b.b-index 0) ≡ true = sym c.if-not-is_ascii_digit.ensures.value in

@@ -1,6 +1,7 @@
 use Rattle.sat_scan.proofs.ScanLemmas.{cnf_tokens_from-word, cnf_tokens_from-end}
 use Rattle.sat_scan.proofs.comments.next_cnf_word.Goals as goal
 
+-- at a byte that isn't a separator a word begins
 pub returns-else-is_separator-clause-stands : goal.returns-else-is_separator-clause-stands
 returns-else-is_separator-clause-stands c = record {
   within = c.loop-at.invariant.within;

@@ -4,6 +4,7 @@ use Rattle.sat_scan.specs.Scan.{word_at}
 use Rattle.sat_scan.proofs.DigitLemmas.{first_digit, behind_digit, last_digit}
 use Rattle.sat_scan.proofs.numbers.positive_at.Goals as goal
 
+-- the word's number is read on from its first digit
 pub loop-end-init : goal.loop-end-init
 loop-end-init c =
     let text = c.args.text.now in

@@ -3,6 +3,7 @@ use Rattle.sat_text_defs.specs.CnfReading.{same_word}
 use Rattle.sat_scan.specs.Scan.{word_at, behind_word_at}
 use Rattle.sat_text.proofs.cnf_header.is_word_at.Given as goal
 
+-- what is left of both words is the same where both are
 abbrev pub invariant-loop-byte : goal.invariant-loop-byte
 invariant-loop-byte l = record {
   end : l.end ≡ l.at + l.byte-index;

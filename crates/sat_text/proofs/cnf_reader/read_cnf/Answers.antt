@@ -8,6 +8,7 @@ use Rattle.sat_values.specs.CnfFormula.{formula_of}
 use Rattle.sat_text.proofs.FirstWord.{cnf_in-from}
 use Rattle.sat_text.proofs.cnf_reader.read_cnf.Goals as goal
 
+-- what is read from the first word on is what is read of the text
 pub returns : goal.returns
 returns c =
     let short : length c.args.b.now ≤ MAX_CNF_BYTES = omega arith in

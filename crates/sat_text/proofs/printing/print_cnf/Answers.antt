@@ -4,6 +4,7 @@ use Rattle.sat_values.specs.CnfFormula.{formula_of}
 use Rattle.sat_text.proofs.Pieces.{line_more}
 use Rattle.sat_text.proofs.printing.print_cnf.Goals as goal
 
+-- one more line was printed
 pub loop-k-preserved : goal.loop-k-preserved
 loop-k-preserved c =
     let within : c.loop-k.k < length c.args.c.now.clauses = omega (arith, c.len-k-end.ensures.len) in

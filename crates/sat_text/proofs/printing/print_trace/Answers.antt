@@ -3,6 +3,7 @@ use Rattle.sat_text_defs.specs.Printed.{trace_text}
 use Rattle.sat_text.proofs.Pieces.{entry_more}
 use Rattle.sat_text.proofs.printing.print_trace.Goals as goal
 
+-- one more line was printed
 pub loop-k-preserved : goal.loop-k-preserved
 loop-k-preserved c =
     let within : c.loop-k.k < length c.args.t.now = omega (arith, c.len-k-end.ensures.len) in

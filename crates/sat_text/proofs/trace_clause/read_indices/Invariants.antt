@@ -6,6 +6,7 @@ use Rattle.sat_scan.specs.Scan.{IsAtWord}
 use Rattle.sat_text.specs.ReadingSteps.{rest_from}
 use Rattle.sat_text.proofs.trace_clause.read_indices.Given as goal
 
+-- behind the indices so far, the rest of the text is read as from the first one
 abbrev pub invariant-loop-from : goal.invariant-loop-from
 invariant-loop-from l = record {
   not_before : l.from ≤ l.at;
@@ -15,5 +16,6 @@ invariant-loop-from l = record {
       ≡ rest_from v l.text l.at t (among_antecedents i stated l.indices.items);
 }
 
+-- how many bytes are left
 abbrev pub decreases-loop-from : goal.decreases-loop-from
 decreases-loop-from l = length l.text - l.at

@@ -4,6 +4,7 @@ use Rattle.sat_scan.specs.Scan.{IsAtWord}
 use Rattle.sat_text.specs.ReadingSteps.{rest_from}
 use Rattle.sat_text.proofs.trace_reader.read_version.Given as goal
 
+-- behind the trace so far, the rest of the text is read as from its beginning
 abbrev pub invariant-loop-at : goal.invariant-loop-at
 invariant-loop-at l = record {
   stands : IsAtWord l.at l.b;
@@ -11,5 +12,6 @@ invariant-loop-at l = record {
   rest : rest_from l.version l.b 0 [] start ≡ rest_from l.version l.b l.at l.reading.trace start;
 }
 
+-- how many bytes are left
 abbrev pub decreases-loop-at : goal.decreases-loop-at
 decreases-loop-at l = length l.b - l.at

@@ -4,6 +4,7 @@ use Rattle.pch_base.proofs.SetLemmas.{Has-take_next}
 use Rattle.sat_values.proofs.TraceLemmas.{greatest_of-drop}
 use Rattle.sat_values.proofs.trace.greatest_with.Goals as goal
 
+-- one more literal counts for the greatest, and is within the limits
 pub loop-l-preserved : goal.loop-l-preserved
 loop-l-preserved c = record {
   greatest =

@@ -5,6 +5,7 @@ use Rattle.trace_places.specs.Places.{IsMoved}
 use Rattle.trace_places.proofs.MoveLemmas.{moved_still}
 use Rattle.trace_places.proofs.places.make_room.Goals as goal
 
+-- what one more slot has stands in the new slots or in the map
 pub loop-slot-preserved : goal.loop-slot-preserved
 loop-slot-preserved c = record {
   slots = c.move_slot.ensures.slots;

@@ -4,6 +4,7 @@ use Rattle.trace_places.specs.Groups.{AreSlots}
 use Rattle.trace_places.specs.Places.{AreRight, MapsRight, HasAll, IsMoved}
 use Rattle.trace_places.proofs.places.make_room.Given as goal
 
+-- what the slots before this one have stands in the new slots or in the map
 abbrev pub invariant-loop-slot : goal.invariant-loop-slot
 invariant-loop-slot l = record {
   slots : AreSlots l.more.count l.more.indices.items l.more.numbers.items;

@@ -5,6 +5,7 @@ use Rattle.chain_check.specs.ByPlace.{ClausesByPlace, part_of}
 use Rattle.chain_check.proofs.PartLemmas.{parts_empty}
 use Rattle.chain_check.proofs.computed.Computed.clear.Goals as goal
 
+-- the part of no literals at each place is no literals
 pub returns-clause-clauses : goal.returns-clause-clauses
 returns-clause-clauses c =
     let same = ap (λ (v : ClausesByPlace). length v.clauses) c.self.view_is in

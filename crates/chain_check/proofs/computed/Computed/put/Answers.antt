@@ -3,6 +3,7 @@ use Rattle.chain_check.specs.ByPlace.{ClausesByPlace}
 use Rattle.chain_check.proofs.PartLemmas.{after_ok, parts_put}
 use Rattle.chain_check.proofs.computed.Computed.put.Goals as goal
 
+-- the new part is the clause, and the others are as they were
 pub returns-clause-clauses : goal.returns-clause-clauses
 returns-clause-clauses c =
     let counted = c.self.inside.lits.ok.0 in

@@ -5,12 +5,14 @@ use Rattle.clause_defs.specs.Clauses.{Has, Lits}
 use Rattle.chain_check.proofs.ClauseLists.{Has-take_more, Has-get, has_cases, take-distinct, none_from}
 use Rattle.chain_check.proofs.marks.Marks.comes_to.Goals as goal
 
+-- each literal of the clause is over the marks' variables
 pub remove-requires-clause-within : goal.remove-requires-clause-within
 remove-requires-clause-within c =
     let there = Has-get c.args.c.now c.loop-l.l-index c.l-item.result c.loop-l-test.true c.l-item.is in
     let within = c.requires.within c.l-item.result there in
     let same = c.loop-l.invariant.variables in omega arith
 
+-- a literal of the clause that isn't in the running clause makes them differ
 pub returns-then-not-remove-clause-same : goal.returns-then-not-remove-clause-same
 returns-then-not-remove-clause-same c =
     let l = c.l-item.result in
@@ -20,6 +22,7 @@ returns-then-not-remove-clause-same c =
       λ same. sym c.if-not-remove.true ∙ c.remove.ensures.found.1 ((c.loop-l.invariant.rest l).1 ((same l).1 there, apart)),
     )
 
+-- taking out one more literal leaves the others
 pub loop-l-preserved : goal.loop-l-preserved
 loop-l-preserved c =
     let l = c.l-item.result in
@@ -38,6 +41,7 @@ loop-l-preserved c =
       ];
     }
 
+-- where nothing is left, both clauses are the same set
 pub returns-clause-same : goal.returns-clause-same
 returns-clause-same c =
     let whole : take c.loop-l.l-index c.args.c.now ≡ c.args.c.now = take_all c.loop-l.l-index c.args.c.now c.loop-l-test.false in (

@@ -3,6 +3,7 @@ use Rattle.clause_defs.specs.Literals.{Literal}
 use Rattle.clause_defs.specs.Clauses.{Has}
 use Rattle.chain_check.proofs.marks.Marks.comes_to.Given as goal
 
+-- the literals of the clause so far stood in the running clause, and were taken out
 abbrev pub invariant-loop-l : goal.invariant-loop-l
 invariant-loop-l l = record {
   variables : l.self.variables ≡ l.initial.self.variables;

@@ -4,6 +4,7 @@ use Rattle.chain_check.specs.Marks.{Marked, is_running}
 use Rattle.chain_check.proofs.MarkLemmas.{IsOrdered-literals_where}
 use Rattle.chain_check.proofs.marks.Marks.len.Goals as goal
 
+-- the literals of the marks are in their order
 pub returns-clause-ordered : goal.returns-clause-ordered
 returns-clause-ordered c =
     let m = c.self.inside in

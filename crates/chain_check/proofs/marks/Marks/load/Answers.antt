@@ -4,12 +4,14 @@ use Rattle.chain_check.proofs.ClauseLists.{Has-take_more, Has-get}
 use Rattle.chain_check.proofs.marks.Marks.load.Goals as goal
 use Rattle.chain_check.proofs.marks.Marks.load.Goals.{then-add, else-add}
 
+-- each literal of the clause is over the marks' variables
 pub add-requires : goal.add-requires
 add-requires c =
     let there = Has-get c.args.c.now c.loop-l.l-index c.l-item.result c.loop-l-test.true c.l-item.is in
     let within = c.requires.within c.l-item.result there in
     let same = c.loop-l.invariant.variables in omega arith
 
+-- one more literal is added, or was there
 pub loop-l-preserved : goal.loop-l-preserved
 loop-l-preserved c = record {
   variables = c.add.ensures.variables ∙ c.loop-l.invariant.variables;

@@ -3,6 +3,7 @@ use Rattle.clause_defs.specs.Literals.{Literal}
 use Rattle.clause_defs.specs.Clauses.{Has}
 use Rattle.chain_check.proofs.marks.Marks.load.Given as goal
 
+-- the clause's literals so far were added
 abbrev pub invariant-loop-l : goal.invariant-loop-l
 invariant-loop-l l = record {
   variables : l.self.variables ≡ l.initial.self.variables;

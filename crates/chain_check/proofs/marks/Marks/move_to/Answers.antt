@@ -7,12 +7,14 @@ use Rattle.chain_check.proofs.ClauseLists.{Has-get, left_more, moved_more, moved
 use Rattle.chain_check.proofs.marks.Marks.move_to.Goals as goal
 use Rattle.chain_check.proofs.marks.Marks.move_to.Goals.{then-remove, else-remove}
 
+-- each literal of the clause is over the marks' variables
 pub remove-requires-clause-within : goal.remove-requires-clause-within
 remove-requires-clause-within c =
     let there = Has-get c.args.c.now c.loop-l.l-index c.l-item.result c.loop-l-test.true c.l-item.is in
     let within = c.requires.within c.l-item.result there in
     let same = c.loop-l.invariant.variables in omega arith
 
+-- one more literal is moved, or isn't in the running clause
 pub loop-l-preserved : goal.loop-l-preserved
 loop-l-preserved c =
     let inv = c.loop-l.invariant in

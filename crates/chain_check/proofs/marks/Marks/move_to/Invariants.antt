@@ -3,6 +3,7 @@ use Rattle.clause_defs.specs.Literals.{Literal}
 use Rattle.clause_defs.specs.Clauses.{Has}
 use Rattle.chain_check.proofs.marks.Marks.move_to.Given as goal
 
+-- of the clause's literals so far, those of the running clause were moved
 abbrev pub invariant-loop-l : goal.invariant-loop-l
 invariant-loop-l l = record {
   variables : l.self.variables ≡ l.initial.self.variables;

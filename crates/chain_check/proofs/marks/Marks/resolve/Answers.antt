@@ -10,6 +10,7 @@ use Rattle.chain_check.proofs.StepLemmas.{adds_more, adds_same, pivot_same, pivo
 use Rattle.chain_check.proofs.marks.Marks.resolve.Goals as goal
 use Rattle.chain_check.proofs.marks.Marks.resolve.Goals.{then-add, else-add, in-None, in-Some+else-ne}
 
+-- the negation of the antecedent's literal is over the marks' variables
 pub holds-requires : goal.holds-requires
 holds-requires c =
     let there = Has-get c.args.c.now c.loop-l.l-index c.l-item.result c.loop-l-test.true c.l-item.is in
@@ -17,12 +18,14 @@ holds-requires c =
     let same = c.loop-l.invariant.variables in
     let e = ap (λ (m : Literal). m.variable) c.negated-opposite.ensures in omega arith
 
+-- the antecedent's literal is over the marks' variables
 pub add-requires : goal.add-requires
 add-requires c =
     let there = Has-get c.args.c.now c.loop-l.l-index c.l-item.result c.loop-l-test.true c.l-item.is in
     let within = c.requires.within c.l-item.result there in
     let same = c.loop-l.invariant.variables in omega arith
 
+-- a literal that doesn't clash is one that the step adds
 pub loop-l-preserved-then-not-holds : goal.loop-l-preserved-then-not-holds
 loop-l-preserved-then-not-holds c =
     let r = c.args.self.now.running in
@@ -47,6 +50,7 @@ loop-l-preserved-then-not-holds c =
       pivot = pivot_same r c.args.c.now c.loop-l.l-index l lt c.l-item.is c.loop-l.pivot calm c.loop-l.invariant.pivot;
     }
 
+-- a second clashing literal makes several
 pub returns-then-ne-clause-step : goal.returns-then-ne-clause-step
 returns-then-ne-clause-step c =
     let r = c.args.self.now.running in
@@ -58,6 +62,7 @@ returns-then-ne-clause-step c =
     (Has-get c.args.c.now c.loop-l.l-index l c.loop-l-test.true c.l-item.is)
     (λ e. eqb-false (code p) (code c.negated-opposite.result) (not-true _ (sym (c.if-ne.ensures {u = tt}))) (ap code (e ∙ sym c.negated-opposite.ensures)))
 
+-- a clashing literal is the pivot
 pub loop-l-preserved : goal.loop-l-preserved
 loop-l-preserved c =
     let r = c.args.self.now.running in
@@ -83,6 +88,7 @@ loop-l-preserved c =
       ];
     }
 
+-- without a pivot no literal clashes
 pub returns-then-not-has-clause-step : goal.returns-then-not-has-clause-step
 returns-then-not-has-clause-step c =
     let r = c.args.self.now.running in
@@ -96,6 +102,7 @@ returns-then-not-has-clause-step c =
     (λ h. true≢false (sym (c.has.ensures.1 h) ∙ c.if-not-has.true))
     c.remove.new.self.running c.remove.ensures.running
 
+-- with one pivot the running clause is the resolvent
 pub returns-else-not-has-clause-step : goal.returns-else-not-has-clause-step
 returns-else-not-has-clause-step c =
     let r = c.args.self.now.running in

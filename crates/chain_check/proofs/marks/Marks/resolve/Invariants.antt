@@ -2,6 +2,7 @@ use Rattle.std.proofs.Common.{◌≡◌, ◌≤◌, length, take}
 use Rattle.chain_check.specs.Steps.{IsPivot, AddsToStep}
 use Rattle.chain_check.proofs.marks.Marks.resolve.Given as goal
 
+-- the step's new literals and its pivot are those of the antecedent's literals so far
 abbrev pub invariant-loop-l : goal.invariant-loop-l
 invariant-loop-l l = record {
   variables : l.self.variables ≡ l.initial.self.variables;

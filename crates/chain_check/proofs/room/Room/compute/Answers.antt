@@ -5,6 +5,7 @@ use Rattle.chain_check.specs.Known.{antecedents_known}
 use Rattle.chain_check.proofs.KnownLemmas.{step_fault}
 use Rattle.chain_check.proofs.room.Room.compute.Goals as goal
 
+-- a faulty step is the fault of the clause
 pub returns-in-Err-clause-fault : goal.returns-in-Err-clause-fault
 returns-in-Err-clause-fault c f =
     let t = c.args.t.now in

@@ -7,6 +7,7 @@ use Rattle.chain_check.proofs.RoomLemmas.{over_all, sign_within, sign_counted}
 use Rattle.chain_check.proofs.room.Room.open.Goals as goal
 use Rattle.chain_check.proofs.room.Room.open.Goals.{then-signs-gt0, else-signs-gt0}
 
+-- the room is enough for the trace
 pub returns-clause-room : goal.returns-clause-room
 returns-clause-room c =
     let variables = c.in_ok-new.ensures {u = tt} in

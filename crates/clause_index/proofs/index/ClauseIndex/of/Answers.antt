@@ -3,6 +3,7 @@ use Rattle.clause_index.specs.Index.{IsIndex}
 use Rattle.clause_index.proofs.IndexLemmas.{IsIndex-settled}
 use Rattle.clause_index.proofs.index.ClauseIndex.of.Goals as goal
 
+-- all clauses are indexed
 pub invariant_of-result : goal.invariant_of-result
 invariant_of-result c =
     let low = c.loop-k-test.false in

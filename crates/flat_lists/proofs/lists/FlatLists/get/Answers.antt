@@ -3,6 +3,7 @@ use Rattle.flat_lists.specs.Flat.{Flat}
 use Rattle.flat_lists.proofs.EndLemmas.{length-parts}
 use Rattle.flat_lists.proofs.lists.FlatLists.get.Goals as goal
 
+-- the list's items are among all items
 pub part-requires-clause-within : goal.part-requires-clause-within
 part-requires-clause-within g c =
     let seen = ap (λ (f : Flat g.row.T.Denot). length f.lists) c.self.view_is in
@@ -11,6 +12,7 @@ part-requires-clause-within g c =
     let within = c.requires in
     omega arith
 
+-- the list has no more items than all
 pub returns-clause-few : goal.returns-clause-few
 returns-clause-few g c =
     let lent = ap length c.deref.ensures.value in

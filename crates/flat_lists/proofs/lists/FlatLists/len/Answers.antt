@@ -3,6 +3,7 @@ use Rattle.flat_lists.specs.Flat.{Flat}
 use Rattle.flat_lists.proofs.EndLemmas.{length-parts}
 use Rattle.flat_lists.proofs.lists.FlatLists.len.Goals as goal
 
+-- there are as many lists as ends
 pub returns : goal.returns
 returns g c =
     let counted : vec_len c.self.inside.ends ≡ length c.self.inside.ends.items = c.self.inside.ends.ok.0 in

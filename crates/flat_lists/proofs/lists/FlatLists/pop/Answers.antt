@@ -4,6 +4,7 @@ use Rattle.flat_lists.specs.Ends.{parts, begin_of}
 use Rattle.flat_lists.proofs.EndLemmas.{length-parts, IsFlat-pop, parts-popped}
 use Rattle.flat_lists.proofs.lists.FlatLists.pop.Goals as goal
 
+-- the remaining ends are in order, up to the remaining items
 pub invariant_of-self : goal.invariant_of-self
 invariant_of-self g c =
     let counted : vec_len c.self.inside.ends ≡ length c.self.inside.ends.items = c.self.inside.ends.ok.0 in
@@ -13,6 +14,7 @@ invariant_of-self g c =
     (c.begin-end.ensures ∙ ap (λ es. begin_of 0 es (c.len-last.result - 1)) c.deref.ensures.value)
     c.truncate.ensures.items c.truncate-2.ensures.items
 
+-- the remaining lists are all but the last
 pub returns-clause-lists : goal.returns-clause-lists
 returns-clause-lists g c =
     let counted : vec_len c.self.inside.ends ≡ length c.self.inside.ends.items = c.self.inside.ends.ok.0 in

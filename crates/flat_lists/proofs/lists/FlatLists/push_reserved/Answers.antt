@@ -3,6 +3,7 @@ use Rattle.flat_lists.specs.Flat.{Flat}
 use Rattle.flat_lists.proofs.EndLemmas.{shows, after_ok, IsFlat-push, parts-pushed}
 use Rattle.flat_lists.proofs.lists.FlatLists.push_reserved.Goals as goal
 
+-- there is room for one more end
 pub push_reserved-requires : goal.push_reserved-requires
 push_reserved-requires g c =
     let shown = shows c.args.self.now c.self.inside.ends.items c.self.inside.items.items (vec_capacity c.self.inside.ends) (vec_capacity c.self.inside.items) c.self.invariant c.self.view_is in
@@ -12,6 +13,7 @@ push_reserved-requires g c =
     let room = c.requires.list_room in
     omega arith
 
+-- the number of all items fits in 32 bits
 pub overflow_cast-len : goal.overflow_cast-len
 overflow_cast-len g c =
     let shown = shows c.args.self.now c.self.inside.ends.items c.self.inside.items.items (vec_capacity c.self.inside.ends) (vec_capacity c.self.inside.items) c.self.invariant c.self.view_is in
@@ -26,6 +28,7 @@ overflow_cast-len g c =
     let length_is = c.len.ensures in
     omega arith
 
+-- the new end is behind the others, at the end of the items
 pub invariant_of-self : goal.invariant_of-self
 invariant_of-self g c =
     let shown = shows c.args.self.now c.self.inside.ends.items c.self.inside.items.items (vec_capacity c.self.inside.ends) (vec_capacity c.self.inside.items) c.self.invariant c.self.view_is in
@@ -42,6 +45,7 @@ invariant_of-self g c =
     (after_ok c.extend_from_slice.result _ _ _ (c.extend_from_slice.ensures.succeeds fits) c.extend_from_slice.ensures.items)
     (c.len.ensures ∙ c.extend_from_slice.new.self.ok.0)
 
+-- the new items are one more list
 pub returns-clause-lists : goal.returns-clause-lists
 returns-clause-lists g c =
     let shown = shows c.args.self.now c.self.inside.ends.items c.self.inside.items.items (vec_capacity c.self.inside.ends) (vec_capacity c.self.inside.items) c.self.invariant c.self.view_is in

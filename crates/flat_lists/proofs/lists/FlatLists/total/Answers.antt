@@ -3,6 +3,7 @@ use Rattle.flat_lists.specs.Flat.{Flat, total}
 use Rattle.flat_lists.proofs.EndLemmas.{total-parts}
 use Rattle.flat_lists.proofs.lists.FlatLists.total.Goals as goal
 
+-- all lists together have as many items as the array
 pub returns : goal.returns
 returns g c =
     let all = total-parts 0 c.self.inside.ends.items c.self.inside.items.items c.self.invariant.ordered in

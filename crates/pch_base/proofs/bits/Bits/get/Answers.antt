@@ -3,6 +3,7 @@ use Rattle.pch_base.specs.BitWords.{length-bits_of}
 use Rattle.pch_base.proofs.BitLemmas.{get_or-tested}
 use Rattle.pch_base.proofs.bits.Bits.get.Goals as goal
 
+-- bit i of the word is bit i of its list
 pub returns : goal.returns
 returns c =
     let e : length c.args.self ≡ c.self.inside.len = ap length (sym c.self.view_is) ∙ length-bits_of c.self.inside.len c.self.inside.word in

@@ -3,6 +3,7 @@ use Rattle.std.specs.List.{list_any}
 use Rattle.pch_base.proofs.SetLemmas.{same_code, list_any-Has}
 use Rattle.pch_base.proofs.clause.Clause.has.Goals as goal
 
+-- a literal is found by its code where it is one of the clause
 pub returns : goal.returns
 returns c =
     let seen : c.deref.result.now ≡ c.args.self.now = c.deref.ensures.value ∙ c.self.view_is in

@@ -5,6 +5,7 @@ use Rattle.sat_values.specs.TraceArrays.{entries_of}
 use Rattle.sat_values.proofs.TraceLemmas.{greatest_variable-within}
 use Rattle.sat_values.proofs.trace.Trace.greatest_variable.Goals as goal
 
+-- no stated literal has a greater variable
 pub returns-clause-within : goal.returns-clause-within
 returns-clause-within c k l h =
     let among = subst (λ t. Has (lits_at t k) l) (sym c.self.view_is) h in

@@ -4,6 +4,7 @@ use Rattle.clause_defs.specs.Traces.{index_at}
 use Rattle.sat_values.proofs.TraceLemmas.{length-entries_of, index_at-entries_of}
 use Rattle.sat_values.proofs.trace.Trace.index.Goals as goal
 
+-- the column's number is the entry's index
 pub returns-clause-index : goal.returns-clause-index
 returns-clause-index c =
     let many = length-entries_of c.self.inside.columns.indices.items c.self.inside.columns.lits.lists c.self.inside.columns.antecedents.lists c.self.inside.signs.items c.self.invariant.as_many_lits c.self.invariant.as_many_antecedents in

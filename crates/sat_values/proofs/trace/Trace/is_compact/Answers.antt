@@ -5,6 +5,7 @@ use Rattle.sat_values.specs.TraceArrays.{entries_of}
 use Rattle.sat_values.proofs.TraceLemmas.{length-entries_of, IsCompactAt-entries_of}
 use Rattle.sat_values.proofs.trace.Trace.is_compact.Goals as goal
 
+-- the column says whether the sign stands
 pub returns-clause-sign : goal.returns-clause-sign
 returns-clause-sign c =
     let many = length-entries_of c.self.inside.columns.indices.items c.self.inside.columns.lits.lists c.self.inside.columns.antecedents.lists c.self.inside.signs.items c.self.invariant.as_many_lits c.self.invariant.as_many_antecedents in
@@ -17,6 +18,7 @@ returns-clause-sign c =
     (sym (c.index.ensures ∙ get_or_default c.self.inside.signs.items c.args.k c.index.result.now false (let lt = c.if-at-len.false in omega arith)))
     (IsCompactAt-entries_of c.self.inside.columns.indices.items c.self.inside.columns.lits.lists c.self.inside.columns.antecedents.lists c.self.inside.signs.items c.args.k c.self.invariant.as_many_lits c.self.invariant.as_many_antecedents at))
 
+-- past the column's end no sign stands
 pub returns-then-at-len-clause-sign : goal.returns-then-at-len-clause-sign
 returns-then-at-len-clause-sign c =
     let many = length-entries_of c.self.inside.columns.indices.items c.self.inside.columns.lits.lists c.self.inside.columns.antecedents.lists c.self.inside.signs.items c.self.invariant.as_many_lits c.self.invariant.as_many_antecedents in

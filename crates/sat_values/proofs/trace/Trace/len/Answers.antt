@@ -2,6 +2,7 @@ use Rattle.std.proofs.Common.{length, sym, ap, ◌∙◌}
 use Rattle.sat_values.proofs.TraceLemmas.{length-entries_of}
 use Rattle.sat_values.proofs.trace.Trace.len.Goals as goal
 
+-- there are as many entries as lists of literals
 pub returns-clause-len : goal.returns-clause-len
 returns-clause-len c =
     c.len.ensures ∙ c.self.invariant.as_many_lits

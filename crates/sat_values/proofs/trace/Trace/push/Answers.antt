@@ -32,9 +32,11 @@ grows c =
       greatest_is = c.greatest_with-greatest.ensures.greatest;
     }
 
+-- the columns with one more in each are a trace's
 pub invariant_of-self-2 : goal.invariant_of-self-2
 invariant_of-self-2 c = AreTrace-grown (grows c)
 
+-- one more in each column is one more entry
 pub returns-clause-ok : goal.returns-clause-ok
 returns-clause-ok c =
     entries_of-grown (grows c) ∙ ap (λ t. t ++ entry c.args.index false c.args.lits.now c.args.antecedents.now ∷ []) c.self.view_is

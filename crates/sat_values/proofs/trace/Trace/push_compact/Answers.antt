@@ -7,6 +7,7 @@ use Rattle.clause_laws.proofs.TraceLemmas.{CanFollow}
 use Rattle.sat_values.proofs.TraceLemmas.{entry, Grows, AreTrace-grown, entries_of-grown, AreTrace-same_signs, entries_of-same_signs, on_err}
 use Rattle.sat_values.proofs.trace.Trace.push_compact.Goals as goal
 
+-- signs that were filled up say the same
 pub invariant_of-self : goal.invariant_of-self
 invariant_of-self c =
     let counted : c.len.result ≡ length c.self.inside.columns.indices.items = c.len.ensures ∙ c.self.inside.columns.indices.ok.0 in
@@ -14,10 +15,12 @@ invariant_of-self c =
     AreTrace-same_signs c.self.inside.columns.indices.items c.self.inside.columns.lits.lists c.self.inside.columns.antecedents.lists c.self.inside.signs.items c.fill.new.signs.items c.self.inside.greatest
     (λ k lt. c.fill.ensures.same k) (omega arith) c.self.invariant
 
+-- without memory for the signs the trace is as before
 pub returns-in_err-fill-clause-err : goal.returns-in_err-fill-clause-err
 returns-in_err-fill-clause-err c = on_err c.from_residual.result _ (
     entries_of-same_signs c.self.inside.columns.indices.items c.self.inside.columns.lits.lists c.self.inside.columns.antecedents.lists c.self.inside.signs.items c.fill.new.signs.items (λ k lt. c.fill.ensures.same k) ∙ c.self.view_is)
 
+-- without memory for the columns they are a trace's as before
 pub invariant_of-self-in_err-push : goal.invariant_of-self-in_err-push
 invariant_of-self-in_err-push c =
     let kept = c.in_err-push.ensures {u = tt} in
@@ -27,6 +30,7 @@ invariant_of-self-in_err-push c =
     (AreTrace-same_signs c.self.inside.columns.indices.items c.self.inside.columns.lits.lists c.self.inside.columns.antecedents.lists c.self.inside.signs.items c.fill.new.signs.items c.self.inside.greatest
     (λ k lt. c.fill.ensures.same k) (omega arith) c.self.invariant)
 
+-- without memory for the columns the trace is as before
 pub returns-in_err-push-clause-err : goal.returns-in_err-push-clause-err
 returns-in_err-push-clause-err c =
     let kept = c.in_err-push.ensures {u = tt} in
@@ -69,9 +73,11 @@ grows c =
       greatest_is = omega arith;
     }
 
+-- the columns with one more in each are a trace's
 pub invariant_of-self-2 : goal.invariant_of-self-2
 invariant_of-self-2 c = AreTrace-grown (grows c)
 
+-- one more in each column, with the sign, is one more entry
 pub returns-clause-ok : goal.returns-clause-ok
 returns-clause-ok c =
     entries_of-grown (grows c) ∙ ap (λ t. t ++ entry c.args.index true [] c.args.antecedents.now ∷ []) c.self.view_is

@@ -2,6 +2,7 @@ use Rattle.std.proofs.Common.{◌≡◌, ◌+◌, get_or, inl, inr, subst, arith
 use Rattle.std.proofs.lemmas.Bool.{cases_lt}
 use Rattle.trace_places.proofs.groups.Groups.find.Goals as goal
 
+-- one more slot doesn't have the index
 pub loop-slot-preserved : goal.loop-slot-preserved
 loop-slot-preserved c s k low lt key number = elim (cases_lt s c.loop-slot.slot) [
   | inl before ↦ c.loop-slot.invariant s k low before key number
@@ -12,6 +13,7 @@ loop-slot-preserved c s k low lt key number = elim (cases_lt s c.loop-slot.slot)
       (subst (λ n. get_or c.args.self.now.numbers.items n 0 ≡ k + 1) here number)
 ]
 
+-- no slot of the group has the index
 pub returns-clause-none : goal.returns-clause-none
 returns-clause-none c k stands =
     let first = c.first-first.ensures.first in

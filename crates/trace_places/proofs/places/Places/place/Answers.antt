@@ -7,6 +7,7 @@ use Rattle.trace_places.proofs.PushLemmas.{entry_of, known_in_map}
 use Rattle.trace_places.proofs.places.Places.place.Goals as goal
 use Rattle.trace_places.proofs.places.Places.place.Goals.{else-at-len-via-then-at-len+else-index-ne0, else-at-len-via-else-at-len}
 
+-- an entry of the table says the place
 pub returns-then-index-ne0 : goal.returns-then-index-ne0
 returns-then-index-ne0 c =
     let len : c.len.result ≡ length c.self.inside.table.items = c.len.ensures ∙ c.self.inside.table.ok.0 in
@@ -20,6 +21,7 @@ returns-then-index-ne0 c =
     let found = c.self.invariant.tabled c.args.index (c.index-then-index-ne0.result.now - 1) entry in
     sym (sym (ap (λ (is : List ℕ). place_of is c.args.index) c.self.view_is) ∙ found)
 
+-- of what neither the table nor a slot has, the map says the place
 pub returns : goal.returns
 returns c =
     let len : c.len.result ≡ length c.self.inside.table.items = c.len.ensures ∙ c.self.inside.table.ok.0 in

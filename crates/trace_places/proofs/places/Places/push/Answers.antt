@@ -5,6 +5,7 @@ use Rattle.trace_places.specs.Places.{AreRight, MapsRight}
 use Rattle.trace_places.proofs.PushLemmas.{ArePlaces-put, ArePlaces-insert, ArePlaces-add, ArePlaces-same_table, ArePlaces-regrouped}
 use Rattle.trace_places.proofs.places.Places.push.Goals as goal
 
+-- a table that couldn't be made longer says the same
 pub invariant_of-self-in_err-put : goal.invariant_of-self-in_err-put
 invariant_of-self-in_err-put c =
     let items : c.reserve.new.self.items ≡ c.self.inside.indices.items = cc in
@@ -12,6 +13,7 @@ invariant_of-self-in_err-put c =
     (ArePlaces-same_table c.self.inside.indices.items c.self.inside.table.items c.put.new.table.items c.self.inside.groups.count c.self.inside.groups.indices.items
     c.self.inside.groups.numbers.items (get nat_cmp c.self.inside.others) c.in_err-put.ensures.same c.self.invariant)
 
+-- the table says the new place too
 pub invariant_of-self-then-index-limit : goal.invariant_of-self-then-index-limit
 invariant_of-self-then-index-limit c =
     let none : place_of c.self.inside.indices.items c.args.index ≡ None = cc in
@@ -23,11 +25,13 @@ invariant_of-self-then-index-limit c =
     (λ y. c.in_ok-put.ensures.set y ∙ ap (λ (n : ℕ). if c.args.index == y then n else get_or c.self.inside.table.items y 0) place)
     c.self.invariant)
 
+-- what the slots have is right
 pub make_room-requires-clause-right : goal.make_room-requires-clause-right
 make_room-requires-clause-right c =
     let lent : c.deref.result.now ≡ c.self.inside.indices.items = cc in
     subst (λ (is : List ℕ). AreRight is c.self.inside.groups.indices.items c.self.inside.groups.numbers.items) (sym lent) c.self.invariant.slotted
 
+-- after what was moved before memory was wanting, all places are still said
 pub invariant_of-self-in_err-make_room : goal.invariant_of-self-in_err-make_room
 invariant_of-self-in_err-make_room c =
     let items : c.reserve.new.self.items ≡ c.self.inside.indices.items = cc in
@@ -40,6 +44,7 @@ invariant_of-self-in_err-make_room c =
     c.make_room.ensures.all c.make_room.ensures.kept c.self.invariant in
     rw items room
 
+-- a slot says the new place too
 pub invariant_of-self-then-add : goal.invariant_of-self-then-add
 invariant_of-self-then-add c =
     let none : place_of c.self.inside.indices.items c.args.index ≡ None = cc in
@@ -57,6 +62,7 @@ invariant_of-self-then-add c =
     c.add.new.self.count c.add.new.self.indices.items c.add.new.self.numbers.items (get nat_cmp c.make_room.new.others) c.args.index c.len-place.result none
     place c.add.ensures.count c.add.ensures.slots c.add.ensures.kept c.add.ensures.only (c.add.ensures.added c.if-add.true) room)
 
+-- where the map has no memory for it, all places are still said
 pub invariant_of-self-in_err-insert : goal.invariant_of-self-in_err-insert
 invariant_of-self-in_err-insert c =
     let items : c.reserve.new.self.items ≡ c.self.inside.indices.items = cc in
@@ -70,6 +76,7 @@ invariant_of-self-in_err-insert c =
     c.make_room.ensures.all c.make_room.ensures.kept c.self.invariant in
     rw (items, c.add.ensures.count, same.0, same.1, (c.in_err-insert.ensures {u = tt}).err) room
 
+-- the map says the new place too
 pub invariant_of-self-2 : goal.invariant_of-self-2
 invariant_of-self-2 c =
     let none : place_of c.self.inside.indices.items c.args.index ≡ None = cc in

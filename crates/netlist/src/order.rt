@@ -141,7 +141,7 @@ impl Sorting {
         ensures order { OnOk result (self.new.order.items ≡ self.old.order.items ++ v ∷ []) }
     {
         self.order.push(v)?;
-        let _last = self.stack.pop();
+        self.stack.pop();
         self.states[v as usize] = State::Done;
         Ok(())
     }

@@ -2,3 +2,4 @@ pub mod BitLemmas
 pub mod SourceLemmas
 pub mod FunctionLemmas
 pub mod PassingLemmas
+pub mod SignalLemmas

@@ -3,3 +3,4 @@ pub mod SourceLemmas
 pub mod FunctionLemmas
 pub mod PassingLemmas
 pub mod SignalLemmas
+pub mod HolderLemmas

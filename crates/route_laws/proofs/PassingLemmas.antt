@@ -68,7 +68,7 @@ passes_on l columns tracks spans config s (suc c) are words signal le live =
     (cases_eq (first_channel columns s) (suc c))
 
 -- nothing, or a signal that is live on channel c
-abbrev IsReadable : MappedValue → List Span → ℕ → Source → Type 0
+abbrev pub IsReadable : MappedValue → List Span → ℕ → Source → Type 0
 IsReadable l spans c Zero = Unit {0}
 IsReadable l spans c (Pad i) = IsSignal l (Pad i) × IsLive (span_of l spans (Pad i)) c
 IsReadable l spans c (Cell k) = IsSignal l (Cell k) × IsLive (span_of l spans (Cell k)) c
@@ -100,7 +100,7 @@ column_after-le columns (s ∷ ss) k (inr m) =
     omega (arith, column_after-rest columns s ss)
 
 -- a signal that a pin of a cell listens to is live on the channel before the cell
-pin_readable : (l : MappedValue) (columns : List ℕ) (spans : List Span) (last k : ℕ) (s : Source) → AreColumns l columns
+pub pin_readable : (l : MappedValue) (columns : List ℕ) (spans : List Span) (last k : ℕ) (s : Source) → AreColumns l columns
     → AreSpans l columns last spans → k < length l.cells → Has (mapped_cell l k).pins s
     → IsSourceBelow l.inputs (length l.cells) s → IsReadable l spans (get_or columns k 0) s
 pin_readable l columns spans last k Zero cols are lt has below = tt
@@ -114,7 +114,7 @@ pin_readable l columns spans last k (Cell j) cols are lt has below =
     (below, (omega arith, (are.ends (Cell j) (get_or columns k 0) below).1 (inl (k, lt, has, omega arith))))
 
 -- a signal that an output listens to is live on the last channel
-output_readable : (l : MappedValue) (columns : List ℕ) (spans : List Span) (last : ℕ) (s : Source)
+pub output_readable : (l : MappedValue) (columns : List ℕ) (spans : List Span) (last : ℕ) (s : Source)
     → ((k : ℕ) → k < length l.cells → get_or columns k 0 < last)
     → AreSpans l columns last spans → Has l.outputs s → IsSourceBelow l.inputs (length l.cells) s → IsReadable l spans last s
 output_readable l columns spans last Zero room are has below = tt
@@ -127,12 +127,12 @@ output_readable l columns spans last (Cell k) room are has below =
     (below, (omega arith, (are.ends (Cell k) last below).1 (inr (has, omega arith))))
 
 -- what is said of each source of a list holds at every place, past the last one of none
-Has-place : (P : Source → Type 0) (ss : List Source) (i : ℕ) → ((s : Source) → Has ss s → P s) → P Zero → P (get_or ss i Zero)
+pub Has-place : (P : Source → Type 0) (ss : List Source) (i : ℕ) → ((s : Source) → Has ss s → P s) → P Zero → P (get_or ss i Zero)
 Has-place P ss i h z =
     ⊎_elim (λ lt. h (get_or ss i Zero) (Has-get_or ss i Zero lt)) (λ past. subst P (sym (get_or_past ss i Zero past)) z) (cases_lt i (length ss))
 
 -- a source among all of which something is said
-All-member : (P : Source → Type 0) (ss : List Source) (s : Source) → All P ss → Has ss s → P s
+pub All-member : (P : Source → Type 0) (ss : List Source) (s : Source) → All P ss → Has ss s → P s
 All-member P [] s h m = absurd m
 All-member P (t ∷ ss) s h (inl e) = subst P e (h 0 t (omega arith))
 All-member P (t ∷ ss) s h (inr m) = All-member P ss s (λ i d lt. h (suc i) d (omega arith)) m

@@ -1,0 +1,5 @@
+pub mod RoomLemmas
+pub mod SeatingLemmas
+pub mod ListingLemmas
+pub mod TrackLemmas
+pub mod PlacingLemmas

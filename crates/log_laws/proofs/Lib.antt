@@ -1,0 +1,3 @@
+pub mod ChainGrowth
+pub mod LogLemmas
+pub mod TraceOfLemmas

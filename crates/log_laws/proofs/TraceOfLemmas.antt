@@ -140,17 +140,18 @@ some_places : (g : ℕ → Lits) (is : List ℕ) (c : Lits) → Resolves (map g 
 some_places g [] c h = λ e. absurd h
 some_places g (i ∷ is) c h = λ e. cc
 
-Has-at : {X : Type 0} (xs : List X) (k : ℕ) (d : X) → k < length xs → Has xs (get_or xs k d)
-Has-at [] k d lt = absurd (omega arith)
-Has-at (x ∷ xs) zero d lt = inl refl
-Has-at (x ∷ xs) (suc k) d lt = inr (Has-at xs k d (omega arith))
+-- what stands at a place is a member
+pub Has-get_or : {X : Type 0} (xs : List X) (k : ℕ) (d : X) → k < length xs → Has xs (get_or xs k d)
+Has-get_or [] k d lt = absurd (omega arith)
+Has-get_or (x ∷ xs) zero d lt = inl refl
+Has-get_or (x ∷ xs) (suc k) d lt = inr (Has-get_or xs k d (omega arith))
 
 module _ (f : List Lits) (ds : List Derived) (w : ℕ) (ok : LogOk f ds) where
   original_right : (k : ℕ) → k < length f → FaultWith f (trace_of f ds) w k (antecedents_at (trace_of f ds) k) None
   original_right k lt =
       subst (λ ps. FaultWith f (trace_of f ds) w k ps None) (sym (ap antecedents_of (original_there f ds k lt)))
       (inl (
-        (get_or f k [], Has-at f k [] lt, subst (λ o. SameSet (get_or f k []) (literals_in o)) (sym (ap stated_of (original_there f ds k lt))) (same_refl (get_or f k []))),
+        (get_or f k [], Has-get_or f k [] lt, subst (λ o. SameSet (get_or f k []) (literals_in o)) (sym (ap stated_of (original_there f ds k lt))) (same_refl (get_or f k []))),
         refl,
       ))
 

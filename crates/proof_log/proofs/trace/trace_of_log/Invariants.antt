@@ -1,0 +1,7 @@
+use Rattle.std.proofs.Common.{◌≡◌, take}
+use Rattle.log_defs.specs.LogTraces.{trace_of}
+use Rattle.proof_log.specs.Kept.{derived_of}
+use Rattle.proof_log.proofs.trace.trace_of_log.Given as goal
+
+abbrev pub invariant-loop-k : goal.invariant-loop-k
+invariant-loop-k l = l.trace ≡ trace_of l.originals.clauses (take l.k (derived_of l.clauses.clauses l.antecedents.lists))

@@ -1,0 +1,24 @@
+use crate::Log;
+use clause_defs::MAX_VARIABLE;
+use pch_base::{Clause, Lit};
+use sat_values::{ClauseSet, Clauses};
+use std::test::Fail;
+
+#[test]
+fn a_clause_is_derived_once(rt: HostRuntime) -> Result<(), Fail> {
+    let alloc = rt.alloc();
+    let clause = Clause::from_lits(alloc, &[Lit::new(1)])?;
+    let mut list = Clauses::new(alloc);
+    list.push(&clause)?;
+    let originals = ClauseSet::from_clauses(alloc, MAX_VARIABLE, list)?;
+    let mut log = Log::open(alloc, originals, 6)?;
+    assert_eq!(rt; log.clause(1), clause.lits());
+    assert_eq!(rt; log.find(clause.lits()), None);
+    assert_eq!(rt; log.derive(clause.lits(), &[1]), Ok(2));
+    assert_eq!(rt; log.find(clause.lits()), Some(2));
+    assert_eq!(rt; log.used(), 5);
+    assert_eq!(rt; log.originals().len(), 1);
+    let trace = log.into_trace(alloc)?;
+    assert_eq!(rt; trace.len(), 2);
+    Ok(())
+}

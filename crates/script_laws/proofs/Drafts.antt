@@ -92,7 +92,7 @@ longer xs ys i x h =
 -- ---- files that were mentioned
 
 -- the place of an element that passes is one of the list
-found_within : {X : Type 0} (p : X → Bool) (xs : List X) → list_any p xs ≡ true → position_or_len p xs < length xs
+pub found_within : {X : Type 0} (p : X → Bool) (xs : List X) → list_any p xs ≡ true → position_or_len p xs < length xs
 found_within p [] e = absurd cc
 found_within p (x ∷ xs) e = by (p x) refl (found_within p xs)
   where
@@ -104,7 +104,7 @@ found_within p (x ∷ xs) e = by (p x) refl (found_within p xs)
         rw is (omega (arith, lt))
 
 -- without one that passes it is behind the list
-none_found : {X : Type 0} (p : X → Bool) (xs : List X) → list_any p xs ≡ false → position_or_len p xs ≡ length xs
+pub none_found : {X : Type 0} (p : X → Bool) (xs : List X) → list_any p xs ≡ false → position_or_len p xs ≡ length xs
 none_found p [] e = refl
 none_found p (x ∷ xs) e = by (p x) refl (none_found p xs)
   where

@@ -14,12 +14,14 @@ pub record IsFilled (count : ℕ) (f : ℕ → ℕ) (bits : List ℕ) (k : ℕ) 
   pub as_many : length bits ≡ count
   pub each : (j : ℕ) → j < k → get_or bits j 0 ≡ f j
 
+-- at first none is filled
 pub filled_none : (count : ℕ) (f : ℕ → ℕ) (bits : List ℕ) → bits ≡ bits_of count 0 → IsFilled count f bits 0
 filled_none count f bits e = record {
   as_many = ap length e ∙ length-bits_of count 0;
   each = λ j lt. absurd (omega arith);
 }
 
+-- one more bit is filled
 pub filled_more : (count : ℕ) (f : ℕ → ℕ) (bits new : List ℕ) (k b : ℕ) → IsFilled count f bits k → k < count → f k ≡ b → new ≡ set bits k b
     → IsFilled count f new (k + 1)
 filled_more count f bits new k b h lt e written =
@@ -32,6 +34,7 @@ filled_more count f bits new k b h lt e written =
           (cases_eq j k);
     })
 
+-- once all are filled, they are the bits of the table
 pub filled_word : (count : ℕ) (f : ℕ → ℕ) (bits : List ℕ) (k : ℕ) → IsFilled count f bits k → count ≤ k → word_of bits ≡ word_of (list_of count f)
 filled_word count f bits k h le =
     ap word_of (list_of_elements count f bits 0 h.as_many (λ i lt. h.each i (omega arith)))

@@ -5,3 +5,6 @@ pub mod MarkLemmas
 pub mod NodeSteps
 pub mod PartLemmas
 pub mod PlaceLemmas
+pub mod AfterLemmas
+pub mod SearchLemmas
+pub mod KeptLemmas

@@ -53,12 +53,14 @@ pub record AreMarked (inputs : ℕ) (before : List Bool) (ss : List ℕ) (marks 
   pub count : length marks ≡ length before
   pub marked : (v : ℕ) → IsMarked marks v ↔ (IsMarked before v ⊎ Has ss (inputs + v))
 
+-- no signal marks nothing
 pub marked_none : (inputs : ℕ) (marks : List Bool) → AreMarked inputs marks [] marks
 marked_none inputs marks = record {
   count = refl;
   marked = λ v. (λ m. inl m, λ m. ⊎_elim (λ old. old) (λ e. absurd e) m);
 }
 
+-- one more signal marks its node
 pub marked_more : (inputs : ℕ) (before : List Bool) (ss : List ℕ) (i s : ℕ) (marks new : List Bool) → i < length ss → get_or ss i s ≡ s
     → AreMarked inputs before (take i ss) marks → length new ≡ length marks
     → ((v : ℕ) → IsMarked new v ↔ (IsMarked marks v ⊎ (s ≡ inputs + v)))
@@ -190,6 +192,7 @@ pub record IsOutputSignal (net : Network) (o s : ℕ) : Type 0 where
   pub place : o < length (output_signals net)
   pub read : get_or (output_signals net) o s ≡ s
 
+-- the signal of an output is one of the network's
 pub output_signal-read : (net : Network) (o s : ℕ) → IsNet net → o < length net.outputs → slice_get (output_signals net) o ≡ Some s → IsOutputSignal net o s
 output_signal-read net o s h lt read =
     let outs = output_signals net in

@@ -17,6 +17,7 @@ length-own_before net needed (suc n) =
     length-append (joined n (own_cells net needed)) (own_cells net needed n)
     ∙ ap (λ k. k + length (own_cells net needed n)) (length-own_before net needed n)
 
+-- no node has no cells
 pub parts_none : (net : Network) (needed : ℕ → Bool) → AreParts net needed 0 [] []
 parts_none net needed = record { made = refl; counted = refl }
 

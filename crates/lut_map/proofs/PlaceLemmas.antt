@@ -30,6 +30,7 @@ pub end_read : (net : Network) (needed : ℕ → Bool) (n v e : ℕ) (cells : Li
 end_read net needed n v e cells ends h lt read =
     read ∙ ap (λ l. get_or l v e) h.counted ∙ get_or-list_of n (λ u. first_cell net needed (suc u)) v e lt
 
+-- each node has an end
 pub length-ends : (net : Network) (needed : ℕ → Bool) (n : ℕ) (cells : List CellValue) (ends : List ℕ) → AreParts net needed n cells ends → length ends ≡ n
 length-ends net needed n cells ends h = ap length h.counted ∙ length-list_of n (λ u. first_cell net needed (suc u))
 

@@ -3,3 +3,6 @@ pub mod Steps
 pub mod Marks
 pub mod Parts
 pub mod Kept
+pub mod LutCells
+pub mod Search
+pub mod Searches

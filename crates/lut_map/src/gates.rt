@@ -75,7 +75,8 @@ pub(crate) fn push_gates(
 ) -> Result<(), NoMemory>
     requires first { first ≤ length cells.old }
     requires few { length terms.old.items ≤ MAX_CELLS }
-    ensures cells { OnOk result (cells.new ≡ cells.old ++ gate_cells gate negated (length cells.old - first) terms.old.items) }
+    ensures cells { OnOk result (cells.new ≡ cells.old
+        ++ gate_cells gate negated (length cells.old - first) terms.old.items) }
     ensures more { OnOk result (length cells.old < length cells.new) }
     ensures few { OnOk result (length cells.new ≤ MAX_CELLS) }
 {

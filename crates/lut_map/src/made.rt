@@ -1,12 +1,15 @@
 //! Cells while they are made, one after another.
 
-ghost use Rattle.std.specs.Prelude.{◌≡◌, ◌+◌, ◌<◌, ◌≤◌, ◌++◌, [], ◌∷◌, length, map, OnOk, IfOk};
+ghost use Rattle.std.specs.Prelude.{◌≡◌, ◌+◌, ◌<◌, ◌≤◌, ◌++◌, [], ◌∷◌, length, map, All, OnOk, IfOk};
 ghost use Rattle.fabric_defs.specs.declared.limits.TheConstants.{MAX_PINS};
 ghost use Rattle.extract.specs.CellLists.{listed_cell};
 ghost use Rattle.map_defs.specs.declared.term.Term.{Term};
 ghost use Rattle.map_defs.specs.Gates.{gate_cell};
 ghost use Rattle.lut_map.specs.declared.made.TheConstants.{MAX_CELLS};
+ghost use Rattle.lut_map.specs.declared.lut_cell.LutCell.{LutCell};
+ghost use Rattle.lut_map.specs.LutCells.{lut_cell};
 
+use crate::lut_cell::LutCell;
 use crate::tables::gate_table;
 use extract::{Cell, CellList, Source};
 use map_defs::{GROUP, Gate, Term};
@@ -71,12 +74,24 @@ impl Made {
     /// Appends a cell.
     pub(crate) fn push(&mut self, pins: &[Source], table: u64) -> Result<(), NoMemory>
         requires { length pins.now ≤ MAX_PINS }
-        ensures { OnOk result (self.new ≡ self.old ++ record { pins = pins.now; table = table } ∷ []) }
+        ensures { OnOk result
+            (self.new ≡ self.old ++ record { pins = pins.now; table = table } ∷ []) }
     {
         if self.len() >= MAX_CELLS {
             return Err(NoMemory);
         }
         self.cells.push(pins, table)?;
+        Ok(())
+    }
+
+    /// Appends these cells.
+    pub(crate) fn push_all(&mut self, cells: &[LutCell]) -> Result<(), NoMemory>
+        requires { All (λ (cell : LutCell). length cell.pins.items ≤ MAX_PINS) cells.now }
+        ensures { OnOk result (self.new ≡ self.old ++ map lut_cell cells.now) }
+    {
+        for cell in cells {
+            self.push(&cell.pins, cell.table)?;
+        }
         Ok(())
     }
 

@@ -18,7 +18,8 @@ use std::alloc::Global;
 /// The sources of the outputs, where the nodes end at these numbers.
 fn output_sources(alloc: Global, net: &Net, ends: &[u32]) -> Result<Vec<Source>, NoMemory>
     requires { length ends.now ≡ length net.now.nodes }
-    ensures { IfOk result (λ sources. sources.items ≡ map (source_by (length net.now.inputs) ends.now) (output_signals net.now)) }
+    ensures { IfOk result (λ sources. sources.items
+        ≡ map (source_by (length net.now.inputs) ends.now) (output_signals net.now)) }
 {
     let inputs = net.inputs();
     let mut sources = Vec::with_capacity(alloc, net.outputs() as usize)?;
@@ -31,14 +32,11 @@ fn output_sources(alloc: Global, net: &Net, ends: &[u32]) -> Result<Vec<Source>,
 /// The reference mapping of a net. Its outputs are those of the net, whatever the bits of the inputs.
 pub fn map(alloc: Global, net: &Net) -> Result<Luts, NoMemory>
     ensures reference { IfOk result (RefMap net.now) }
-    ensures outputs { IfOk result (λ l. (x y : List ℕ) → IsBits (length net.now.inputs) x → (LutOut l x y ↔ SpecOut net.now x y)) }
+    ensures outputs { IfOk result (λ l. (x y : List ℕ) → IsBits (length net.now.inputs) x
+        → (LutOut l x y ↔ SpecOut net.now x y)) }
 {
     let parts = parts_of(alloc, net)?;
     let cells = placed_cells(alloc, net, &parts)?;
     let outputs = output_sources(alloc, net, &parts.ends)?;
-    Ok(Luts {
-        inputs: net.inputs(),
-        cells: cells.into_cells(),
-        outputs,
-    })
+    Luts::from_cells(alloc, net.inputs(), cells.into_cells(), outputs)
 }

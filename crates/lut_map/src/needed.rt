@@ -15,7 +15,8 @@ use std::alloc::Global;
 fn mark_node(marks: &mut Vec<bool>, inputs: u32, signal: u32)
     requires { signal < inputs + length marks.old.items }
     ensures count { length marks.new.items ≡ length marks.old.items }
-    ensures marks { (v : ℕ) → IsMarked marks.new.items v ↔ (IsMarked marks.old.items v ⊎ (signal ≡ inputs + v)) }
+    ensures marks { (v : ℕ) → IsMarked marks.new.items v
+        ↔ (IsMarked marks.old.items v ⊎ (signal ≡ inputs + v)) }
 {
     if signal >= inputs {
         marks[(signal - inputs) as usize] = true;
@@ -26,7 +27,8 @@ fn mark_node(marks: &mut Vec<bool>, inputs: u32, signal: u32)
 fn mark_nodes(marks: &mut Vec<bool>, inputs: u32, signals: &[u32])
     requires { All (λ s. s < inputs + length marks.old.items) signals.now }
     ensures count { length marks.new.items ≡ length marks.old.items }
-    ensures marks { (v : ℕ) → IsMarked marks.new.items v ↔ (IsMarked marks.old.items v ⊎ Has signals.now (inputs + v)) }
+    ensures marks { (v : ℕ) → IsMarked marks.new.items v
+        ↔ (IsMarked marks.old.items v ⊎ Has signals.now (inputs + v)) }
 {
     for signal in signals {
         mark_node(marks, inputs, *signal);

@@ -82,8 +82,10 @@ fn put_terms(terms: &mut Vec<Term>, row: &[Mark]) -> Result<(), NoMemory>
 fn push_rows(cells: &mut Made, first: u32, rows: &[Row], room: &mut Room) -> Result<(), NoMemory>
     requires first { first ≤ length cells.old }
     requires short { All (λ row. length row ≤ MAX_PORTS) rows.now }
-    ensures cells { OnOk result (cells.new ≡ cells.old ++ rows_cells (length cells.old - first) rows.now) }
-    ensures ends { OnOk result (room.new.ends.items ≡ rows_terms (length cells.old - first) rows.now) }
+    ensures cells { OnOk result
+        (cells.new ≡ cells.old ++ rows_cells (length cells.old - first) rows.now) }
+    ensures ends { OnOk result
+        (room.new.ends.items ≡ rows_terms (length cells.old - first) rows.now) }
     ensures few { OnOk result (length room.new.ends.items ≤ MAX_CELLS) }
 {
     room.ends.clear();

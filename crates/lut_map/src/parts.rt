@@ -37,7 +37,8 @@ fn push_needed(
 ) -> Result<(), NoMemory>
     requires net { IsNet net.now }
     requires within { v < length net.now.nodes }
-    ensures { OnOk result (cells.new ≡ cells.old ++ (if is_needed then node_cells (node_at net.now v) else [])) }
+    ensures { OnOk result (cells.new ≡ cells.old
+        ++ (if is_needed then node_cells (node_at net.now v) else [])) }
 {
     if is_needed {
         push_node(cells, net, v, room)?;
@@ -48,7 +49,8 @@ fn push_needed(
 /// The cells of all needed nodes.
 pub(crate) fn parts_of(alloc: Global, net: &Net) -> Result<Parts, NoMemory>
     ensures needed { IfOk result (λ p. IsNeeded net.now (is_marked p.needed.items)) }
-    ensures parts { IfOk result (λ p. AreParts net.now (is_marked p.needed.items) (length net.now.nodes) p.cells p.ends.items) }
+    ensures parts { IfOk result (λ p.
+        AreParts net.now (is_marked p.needed.items) (length net.now.nodes) p.cells p.ends.items) }
 {
     let needed = needed_nodes(alloc, net)?;
     let count = net.nodes();

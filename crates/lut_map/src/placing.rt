@@ -55,7 +55,8 @@ fn put_sources(
     requires signals { All (λ s. s < inputs + length ends.now) fan_ins.now }
     requires first { first ≤ MAX_CELLS }
     requires below { All (IsSourceBelow (length fan_ins.now) MAX_CELLS) own.now }
-    ensures { OnOk result (pins.new.items ≡ map (source_in (source_by inputs ends.now) fan_ins.now first) own.now) }
+    ensures { OnOk result (pins.new.items
+        ≡ map (source_in (source_by inputs ends.now) fan_ins.now first) own.now) }
 {
     pins.clear();
     for source in own {
@@ -102,7 +103,8 @@ pub(crate) fn push_node_placed(
     requires few { length own.now ≤ MAX_CELLS }
     requires first { first ≤ end }
     requires end { end ≤ length own.now }
-    requires each { (k : ℕ) → first ≤ k → k < end → IsPlaceable (length fan_ins.now) (listed_cell own.now k) }
+    requires each { (k : ℕ) → first ≤ k → k < end
+        → IsPlaceable (length fan_ins.now) (listed_cell own.now k) }
     ensures { OnOk result (cells.new ≡ cells.old
         ++ map (cell_in (source_by inputs ends.now) fan_ins.now first)
         (take (end - first) (drop first own.now))) }
@@ -118,8 +120,10 @@ pub(crate) fn push_node_placed(
 
 /// The cells of all needed nodes, among all cells.
 pub(crate) fn placed_cells(alloc: Global, net: &Net, parts: &Parts) -> Result<Made, NoMemory>
-    requires { AreParts net.now (is_marked parts.now.needed.items) (length net.now.nodes) parts.now.cells parts.now.ends.items }
-    ensures { IfOk result (λ cells. cells ≡ cells_before net.now (is_marked parts.now.needed.items) (length net.now.nodes)) }
+    requires { AreParts net.now (is_marked parts.now.needed.items) (length net.now.nodes)
+        parts.now.cells parts.now.ends.items }
+    ensures { IfOk result (λ cells. cells
+        ≡ cells_before net.now (is_marked parts.now.needed.items) (length net.now.nodes)) }
 {
     let inputs = net.inputs();
     let ends = &parts.ends;

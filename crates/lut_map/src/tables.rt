@@ -61,7 +61,8 @@ fn some_row_hits(rows: &[Row], bits: Bits) -> bool
 /// Whether the bit of the node is 1.
 fn node_bit(rows: &[Row], on: bool, bits: Bits) -> bool
     requires { All (λ row. length row ≡ length bits) rows.now }
-    ensures { node_bit (record { fan_ins = []; on = on; rows = rows.now }) bits ≡ (if result then 1 else 0) }
+    ensures { node_bit (record { fan_ins = []; on = on; rows = rows.now }) bits
+        ≡ (if result then 1 else 0) }
 {
     some_row_hits(rows, bits) == on
 }
@@ -70,7 +71,8 @@ fn node_bit(rows: &[Row], on: bool, bits: Bits) -> bool
 pub(crate) fn node_table(rows: &[Row], on: bool, pins: u32) -> u64
     requires few { pins ≤ MAX_PINS }
     requires rows { All (λ row. length row ≡ pins) rows.now }
-    ensures { result ≡ table_of pins (node_bit (record { fan_ins = []; on = on; rows = rows.now })) }
+    ensures { result
+        ≡ table_of pins (node_bit (record { fan_ins = []; on = on; rows = rows.now })) }
 {
     let mut table = Bits::new(0, TABLE_BITS);
     for k in 0..TABLE_BITS {

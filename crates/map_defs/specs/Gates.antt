@@ -81,5 +81,6 @@ gate_cells_in (suc rounds) gate negated next terms =
     else round_cells gate terms
     ++ gate_cells_in rounds gate negated (next + length (round_cells gate terms)) (round_terms next terms)
 
+-- the same with as many rounds as are enough
 abbrev pub gate_cells : Gate → Bool → ℕ → List Term → List CellValue
 gate_cells gate negated next terms = gate_cells_in (length terms) gate negated next terms

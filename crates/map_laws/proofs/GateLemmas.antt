@@ -45,10 +45,12 @@ AreBits-sources x a [] h c m = absurd m
 AreBits-sources x a (s ∷ ss) h c (inl e) = subst (λ n. n ≤ 1) e (h s)
 AreBits-sources x a (s ∷ ss) h c (inr m) = AreBits-sources x a ss h c m
 
+-- a test is at most 1 as a bit
 pub bit_of-le : (b : Bool) → bit_of b ≤ 1
 bit_of-le true = omega arith
 bit_of-le false = omega arith
 
+-- and the test is whether that bit is 1
 pub bit_of-one : (b : Bool) → (bit_of b == 1) ≡ b
 bit_of-one true = refl
 bit_of-one false = refl

@@ -105,6 +105,7 @@ cell_number-within net needed v i lt within =
 pub signal_source-input : (net : Network) (needed : ℕ → Bool) (s : ℕ) → s < length net.inputs → signal_source net needed s ≡ Pad s
 signal_source-input net needed s lt = cond-true (ltb s (length net.inputs)) (Pad s) _ (lt-ltb s (length net.inputs) lt)
 
+-- the source of a node's signal is its last cell
 pub signal_source-node : (net : Network) (needed : ℕ → Bool) (s : ℕ) → length net.inputs ≤ s
     → signal_source net needed s ≡ Cell (first_cell net needed (suc (s - length net.inputs)) - 1)
 signal_source-node net needed s le = cond-false (ltb s (length net.inputs)) (Pad s) _ (le-ltb s (length net.inputs) le)
@@ -218,6 +219,7 @@ own_cells-obey net needed x s a v h lt e fan i within =
     (sources_in-bits x a s fan_ins (signal_source net needed) first (0 + i) cell.pins fan
     (own_cells-local net needed v h.is_net lt e i within).pins)
 
+-- a settled node is one of the network's
 pub settled-within : (net : Network) (k v : ℕ) → Settled net k v → v < length net.nodes
 settled-within net zero v h = absurd h
 settled-within net (suc k) v h = h.0

@@ -97,6 +97,7 @@ at_most true false = omega arith
 at_most false true = omega arith
 at_most false false = omega arith
 
+-- the bit of a node is at most 1
 pub node_bit-le : (node : Node) (values : List ℕ) → node_bit node values ≤ 1
 node_bit-le node values = at_most (some_row_hits node values) node.on
 

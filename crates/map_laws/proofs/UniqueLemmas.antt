@@ -59,6 +59,7 @@ pins-agree f g fan_ins first (s ∷ ss) h =
     ap (λ t. t ∷ map (source_in f fan_ins first) ss) (source_in-agree f g fan_ins first s h)
     ∙ ap (λ l. source_in g fan_ins first s ∷ l) (pins-agree f g fan_ins first ss h)
 
+-- cells of a node are put among all in one way, where the sources of its fan-ins are the same
 pub cells-agree : (f g : ℕ → Source) (fan_ins : List ℕ) (first : ℕ) (cells : List CellValue) → ((j : ℕ) → f (get_or fan_ins j 0) ≡ g (get_or fan_ins j 0))
     → map (cell_in f fan_ins first) cells ≡ map (cell_in g fan_ins first) cells
 cells-agree f g fan_ins first [] h = refl

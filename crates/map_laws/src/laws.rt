@@ -10,7 +10,8 @@ ghost use Rattle.map_defs.specs.Reference.{RefMap};
 
 /// Settled cells have exactly one list of bits.
 pub fn mapped_bits_exist()
-    ensures exist { (l : MappedValue) (x : List ℕ) → AreSettled l → (a : List ℕ) × MappedBits l x a }
+    ensures exist { (l : MappedValue) (x : List ℕ) → AreSettled l
+        → (a : List ℕ) × MappedBits l x a }
     ensures unique { (l : MappedValue) (x a b : List ℕ) → AreSettled l
         → MappedBits l x a → MappedBits l x b → a ≡ b }
     ensures outputs { (l : MappedValue) (x y z : List ℕ) → AreSettled l
@@ -30,12 +31,14 @@ pub fn reference_is_mapped()
 
 /// Settled cells have exactly one list of columns.
 pub fn columns_exist()
-    ensures exist { (l : MappedValue) → AreSettled l → (columns : List ℕ) × AreColumns l columns }
+    ensures exist { (l : MappedValue) → AreSettled l
+        → (columns : List ℕ) × AreColumns l columns }
     ensures unique { (l : MappedValue) (a b : List ℕ) → AreSettled l
         → AreColumns l a → AreColumns l b → a ≡ b }
 {}
 
 /// A net has one reference mapping.
 pub fn reference_is_unique()
-    ensures { (net : Network) (l m : MappedValue) → IsNet net → RefMap net l → RefMap net m → l ≡ m }
+    ensures { (net : Network) (l m : MappedValue) → IsNet net
+        → RefMap net l → RefMap net m → l ≡ m }
 {}

@@ -1,5 +1,7 @@
 use Rattle.std.proofs.Common.{◌∙◌, ap, arith, length, map}
 use Rattle.net_defs.specs.Evaluation.{output_signals}
+use Rattle.std.proofs.lemmas.Result.{IfOk-weaker}
+use Rattle.map_defs.specs.Mapped.{MappedValue}
 use Rattle.map_laws.proofs.SettledLemmas.{reference-outputs}
 use Rattle.lut_map.specs.Kept.{luts_of}
 use Rattle.lut_map.specs.Marks.{is_marked}
@@ -14,8 +16,8 @@ output_sources-requires c =
     ap length c.deref.ensures.value
     ∙ length-ends net (is_marked p.needed.items) (length net.nodes) p.cells p.ends.items c.in_ok-parts.ensures.parts
 
-pub invariant_of-result : goal.invariant_of-result
-invariant_of-result c =
+pub from_cells-requires : goal.from_cells-requires
+from_cells-requires c =
     let net = c.args.net.now in
     let p = c.in_ok-parts.parts in
     let needed = is_marked p.needed.items in
@@ -33,15 +35,17 @@ returns-clause-reference c =
     let made = mapping_made net needed c.inputs.result p.cells c.into_cells.result p.ends.items c.in_ok-outputs.outputs.items c.inputs.ensures.net
     c.in_ok-parts.ensures.parts c.inputs.ensures.count (c.into_cells.ensures.cells ∙ c.in_ok-cells.ensures)
     (c.in_ok-outputs.ensures ∙ ap (λ l. map (source_by (length net.inputs) l) (output_signals net)) c.deref.ensures.value) in
-    (needed, c.in_ok-parts.ensures.needed, made)
+    IfOk-weaker c.from_cells.result _ _
+    (λ (l : MappedValue) e. (needed, c.in_ok-parts.ensures.needed, e ∙ made)) c.from_cells.ensures
 
 pub returns-clause-outputs : goal.returns-clause-outputs
-returns-clause-outputs c x y bits =
+returns-clause-outputs c =
     let net = c.args.net.now in
     let p = c.in_ok-parts.parts in
     let needed = is_marked p.needed.items in
     let made = mapping_made net needed c.inputs.result p.cells c.into_cells.result p.ends.items c.in_ok-outputs.outputs.items c.inputs.ensures.net
     c.in_ok-parts.ensures.parts c.inputs.ensures.count (c.into_cells.ensures.cells ∙ c.in_ok-cells.ensures)
     (c.in_ok-outputs.ensures ∙ ap (λ l. map (source_by (length net.inputs) l) (output_signals net)) c.deref.ensures.value) in
-    reference-outputs net (luts_of c.inputs.result c.into_cells.result c.in_ok-outputs.outputs.items) x y c.inputs.ensures.net
-    (needed, c.in_ok-parts.ensures.needed, made) bits
+    IfOk-weaker c.from_cells.result _ _
+    (λ (l : MappedValue) e x y bits. reference-outputs net l x y c.inputs.ensures.net (needed, c.in_ok-parts.ensures.needed, e ∙ made) bits)
+    c.from_cells.ensures

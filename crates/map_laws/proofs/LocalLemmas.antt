@@ -25,9 +25,10 @@ use Rattle.map_laws.proofs.TableLemmas.{table_of-lt, table_of-repeated}
 use Rattle.map_laws.proofs.GateLemmas.{bit_of-le, length-group, length-first_cells, length-round_terms, gate_cells_in-few, gate_cells_in-many, gate_cells_in-some}
 use Rattle.map_laws.proofs.NodeLemmas.{node_bit-le}
 
--- a mapped cell whose pins are among so many fan-ins and the cells below `end`
+-- a mapped cell with few pins, which are among so many fan-ins and the cells below `end`
 pub record IsLocal (pads end : ℕ) (cell : CellValue) : Type 0 where
   pub mapped : IsMappedCell cell
+  pub narrow : length cell.pins ≤ GROUP
   pub pins : All (IsSourceBelow pads end) cell.pins
 
 -- each of the cells, the first of which has the number `next`, listens below its own number
@@ -79,6 +80,7 @@ gate_cell-local gate negated pads end terms le h =
         table = table_of-lt (length terms) f small;
         repeated = subst P (sym count) (table_of-repeated (length terms) f small);
       };
+      narrow = omega (arith, count, le);
       pins = All-map (IsSourceBelow pads end) (λ (t : Term). t.source) terms h;
     }
 
@@ -235,6 +237,7 @@ direct_cell-local node le =
         table = table_of-lt count f (node_bit-le node);
         repeated = subst P (sym e) (table_of-repeated count f (node_bit-le node));
       };
+      narrow = omega (arith, e, le);
       pins = All-list_of (IsSourceBelow count 0) count Pad (λ i lt. lt);
     }
 

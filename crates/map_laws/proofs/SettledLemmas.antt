@@ -10,6 +10,11 @@ use Rattle.net_defs.specs.Nets.{IsNet}
 use Rattle.net_defs.specs.Evaluation.{output_signals, SpecOut}
 use Rattle.net_defs.proofs.AssignmentLemmas.{assignment_exists}
 use Rattle.fabric_defs.specs.Bits.{IsBits}
+use Rattle.fabric_defs.specs.declared.kind.CellKind.{CellKind}
+use Rattle.fabric_defs.specs.declared.kind.CellKind.TheVariants.{FourInputs, SixInputs}
+use Rattle.fabric_defs.specs.Kinds.{pins_of}
+use Rattle.fabric_defs.specs.Geometries.{GeometryValue, pin_count}
+use Rattle.map_defs.specs.declared.limits.TheConstants.{GROUP}
 use Rattle.map_defs.specs.Outputs.{LutOut}
 use Rattle.cell_defs.specs.declared.source.Source.{Source}
 use Rattle.cell_defs.specs.declared.source.Source.TheVariants.{Zero, Pad, Cell}
@@ -146,6 +151,25 @@ cell_in-mapped source_of fan_ins first cell h =
       table = h.table;
       repeated = subst P (sym count) h.repeated;
     }
+
+-- every kind of cells has as many pins as a group has terms
+GROUP-pins_of : (kind : CellKind) → GROUP ≤ pins_of kind
+GROUP-pins_of FourInputs = omega arith
+GROUP-pins_of SixInputs = omega arith
+
+-- no cell of the mapping has more pins than the cells of a fabric
+pub mapping-narrow : (net : Network) (needed : ℕ → Bool) → IsNet net → HasFanIns net needed → (g : GeometryValue) (k : ℕ)
+    → k < length (mapping net needed).cells → length (mapped_cell (mapping net needed) k).pins ≤ pin_count g
+mapping-narrow net needed is_net closed g k lt =
+    let at = place_of_cell net needed (length net.nodes) k (omega (arith, length-cells_before net needed (length net.nodes))) in
+    let P : ℕ → Type 0 = λ m. length (mapped_cell (mapping net needed) m).pins ≤ pin_count g in
+    let Q : CellValue → Type 0 = λ c. length c.pins ≤ pin_count g in
+    let cell = get_or (own_cells net needed at.0) at.1 no_cell in
+    let own = (own_cells-local net needed at.0 is_net at.2 (needed-from_cell net needed at.0 at.1 at.3) at.1 at.3).narrow in
+    let count : length (map (source_in (signal_source net needed) (node_at net at.0).fan_ins (first_cell net needed at.0)) cell.pins) ≡ length cell.pins =
+        length-map cell.pins (source_in (signal_source net needed) (node_at net at.0).fan_ins (first_cell net needed at.0)) in
+    let least : GROUP ≤ pin_count g = GROUP-pins_of g.kind in
+    subst P (sym at.4) (subst Q (sym (mapped_cell-at net needed at.0 at.1 at.2 at.3)) (omega (arith, count, own, least)))
 
 -- the source of a needed signal is an input or a cell
 signal_source-below : (net : Network) (needed : ℕ → Bool) (t : ℕ) → HasFanIns net needed → t < signals net → Has (output_signals net) t

@@ -1,9 +1,10 @@
-ghost use Rattle.std.specs.Prelude.{◌≡◌, ◌↔◌, ℕ, List, length};
+ghost use Rattle.std.specs.Prelude.{◌≡◌, ◌<◌, ◌≤◌, ◌↔◌, ℕ, List, length};
 ghost use Rattle.fabric_defs.specs.Bits.{IsBits};
+ghost use Rattle.fabric_defs.specs.Geometries.{GeometryValue, pin_count};
 ghost use Rattle.net_defs.specs.Networks.{Network};
 ghost use Rattle.net_defs.specs.Nets.{IsNet};
 ghost use Rattle.net_defs.specs.Evaluation.{SpecOut};
-ghost use Rattle.map_defs.specs.Mapped.{MappedValue, AreSettled, AreMapped};
+ghost use Rattle.map_defs.specs.Mapped.{MappedValue, mapped_cell, AreSettled, AreMapped};
 ghost use Rattle.map_defs.specs.Outputs.{MappedBits, LutOut};
 ghost use Rattle.map_defs.specs.Columns.{AreColumns};
 ghost use Rattle.map_defs.specs.Reference.{RefMap};
@@ -27,6 +28,13 @@ pub fn reference_has_the_outputs()
 /// The reference mapping of a net is a list of mapped cells.
 pub fn reference_is_mapped()
     ensures { (net : Network) (l : MappedValue) → IsNet net → RefMap net l → AreMapped l }
+{}
+
+/// No cell of the reference mapping of a net has more pins than the cells of a fabric, of whatever kind
+/// they are.
+pub fn reference_cells_are_narrow()
+    ensures { (net : Network) (l : MappedValue) (g : GeometryValue) (k : ℕ) → IsNet net
+        → RefMap net l → k < length l.cells → length (mapped_cell l k).pins ≤ pin_count g }
 {}
 
 /// Settled cells have exactly one list of columns.

@@ -8,6 +8,6 @@
 mod laws;
 
 pub use laws::{
-    columns_exist, mapped_bits_exist, reference_has_the_outputs, reference_is_mapped,
-    reference_is_unique,
+    columns_exist, mapped_bits_exist, reference_cells_are_narrow, reference_has_the_outputs,
+    reference_is_mapped, reference_is_unique,
 };

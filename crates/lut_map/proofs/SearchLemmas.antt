@@ -35,14 +35,29 @@ pub done-within : (states : List State) (k column : ℕ) → state_at states k �
 done-within states k column h =
     ⊎_elim (λ lt. lt) (λ le. let e : state_at states k ≡ New = get_or_past states k New le in absurd cc) (cases_lt k (length states))
 
--- how the counts of new cells and of known columns change where a state is written
+-- how the count of new cells changes where a state is written
 count-new : (states : List State) (k : ℕ) (s : State) → k < length states
     → count_by is_new (set states k s) + cond (is_new (state_at states k)) 1 0 ≡ count_by is_new states + cond (is_new s) 1 0
 count-new states k s lt = sum_by-set (λ t. cond (is_new t) 1 0) states k s New lt
 
+-- and of columns that are known
 count-done : (states : List State) (k : ℕ) (s : State) → k < length states
     → count_by is_done (set states k s) + cond (is_done (state_at states k)) 1 0 ≡ count_by is_done states + cond (is_done s) 1 0
 count-done states k s lt = sum_by-set (λ t. cond (is_done t) 1 0) states k s New lt
+
+-- a new cell that is opened leaves as many columns known
+done-opened : (states : List State) (k : ℕ) → k < length states → state_at states k ≡ New
+    → count_by is_done (set states k Open) ≡ count_by is_done states
+done-opened states k lt fresh =
+    let f : cond (is_done (state_at states k)) 1 0 ≡ 0 = ap {B = ℕ} (λ t. cond (is_done t) 1 0) fresh in
+    omega (arith, count-done states k Open lt, f)
+
+-- and an open one that is closed makes them one more
+done-closed : (states : List State) (k column : ℕ) → k < length states → state_at states k ≡ Open
+    → count_by is_done (set states k (Done column)) ≡ count_by is_done states + 1
+done-closed states k column lt is_open =
+    let f : cond (is_done (state_at states k)) 1 0 ≡ 0 = ap {B = ℕ} (λ t. cond (is_done t) 1 0) is_open in
+    omega (arith, count-done states k (Done column) lt, f)
 
 -- no column that is known is too great
 pub columns-small : (cells : List CellValue) (states : List State) (stack : List ℕ) (limit : ℕ) → IsSearch cells states stack → length cells < limit
@@ -60,9 +75,7 @@ right-opened cells states k h lt fresh =
     (λ e. let here : state_at (set states k Open) j ≡ Open = ap (λ m. state_at (set states k Open) m) e ∙ state_at-same states k Open lt in absurd cc)
     (λ ne. sym (state_at-other states k j Open ne) ∙ known)
     (cases_eq j k)) in
-    let same : count_by is_done (set states k Open) ≡ count_by is_done states =
-    (let f : cond (is_done (state_at states k)) 1 0 ≡ 0 = ap {B = ℕ} (λ t. cond (is_done t) 1 0) fresh in
-    omega (arith, count-done states k Open lt, f)) in
+    let same : count_by is_done (set states k Open) ≡ count_by is_done states = done-opened states k lt fresh in
     record {
       right = λ columns are j column known. h.right columns are j column (was j column known);
       small = λ j column known. let old : column < count_by is_done states = h.small j column (was j column known) in omega (arith, same);
@@ -113,9 +126,7 @@ right-closed : (cells : List CellValue) (states : List State) (k column : ℕ) �
 right-closed cells states k column h lt is_open found le =
     let new = set states k (Done column) in
     let at : state_at new k ≡ Done column = state_at-same states k (Done column) lt in
-    let more : count_by is_done new ≡ count_by is_done states + 1 =
-    (let f : cond (is_done (state_at states k)) 1 0 ≡ 0 = ap {B = ℕ} (λ t. cond (is_done t) 1 0) is_open in
-    omega (arith, count-done states k (Done column) lt, f)) in
+    let more : count_by is_done new ≡ count_by is_done states + 1 = done-closed states k column lt is_open in
     let told : (j other : ℕ) → j ≡ k → state_at new j ≡ Done other → column ≡ other =
     (λ j other e known. let both : Done column ≡ Done other = sym at ∙ ap (λ m. state_at new m) (sym e) ∙ known in ap column_of both) in
     record {
@@ -301,6 +312,7 @@ pub step-opened : (cells : List CellValue) (states new : List State) (stack afte
     → new ≡ set states k Open → after ≡ stack ++ k ∷ [] → IsSearch cells new after
 step-opened cells states new stack after k h next e f = rw (e, f) (search-opened cells states stack k h next.within next.fresh next.below)
 
+-- no cell that was met is new then
 pub step-met : (cells : List CellValue) (states new : List State) (stack : List ℕ) (k : ℕ) → IsSearch cells states stack → IsNext cells states stack k
     → new ≡ set states k Open → StayMet states new
 step-met cells states new stack k h next e =
@@ -308,6 +320,7 @@ step-met cells states new stack k h next e =
     let P : List State → Type 0 = λ l. StayMet states l in
     subst P (sym e) (StayMet-set states k Open in_states (λ same. cc))
 
+-- and less is left to do
 pub step-less : (cells : List CellValue) (states new : List State) (stack after : List ℕ) (k : ℕ) → IsSearch cells states stack → IsNext cells states stack k
     → new ≡ set states k Open → after ≡ stack ++ k ∷ [] → work new after < work states stack
 step-less cells states new stack after k h next e f =
@@ -325,6 +338,7 @@ pub record Begins (cells : List CellValue) (old new : List State) (stack : List 
   pub stay : StayMet old new
   pub met : state_at new root ≡ New → ⊥
 
+-- where the stack was empty, that keeps what the search stands on
 pub search-begins : (cells : List CellValue) (states new : List State) (stack after : List ℕ) (root : ℕ) → IsSearch cells states stack → stack ≡ []
     → root < length cells → state_at states root ≡ New → new ≡ set states root Open → after ≡ stack ++ root ∷ [] → Begins cells states new after root
 search-begins cells states new stack after root h none lt fresh e f =

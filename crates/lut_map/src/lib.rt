@@ -22,6 +22,8 @@ mod nodes;
 mod parts;
 mod placing;
 mod tables;
+#[cfg(test)]
+mod tests;
 
 pub use lut_cell::LutCell;
 pub use luts::Luts;

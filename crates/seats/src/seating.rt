@@ -97,7 +97,8 @@ pub fn take_seats(
 ) -> Result<Seating, AllocError>
     requires few { inputs ≤ MAX_SIDE }
     requires count { length seats.now ≡ length spans.now }
-    requires within { (n : ℕ) → n < length spans.now → slice_index seats.now n < seat_count inputs g }
+    requires within { (n : ℕ) → n < length spans.now
+        → slice_index seats.now n < seat_count inputs g }
     requires apart { (m n : ℕ) → m < n → n < length spans.now
         → slice_index seats.now m ≢ slice_index seats.now n }
     ensures { IfOk result (λ s. HaveSeats inputs g spans.now seats.now (length spans.now)

@@ -37,7 +37,8 @@ pub fn hold(
     }
 }
 
-/// The word of a track that takes the signal of this seat: an input, or a cell of the column before.
+/// The word of a track that takes the signal of this seat: an input, or a cell of the column
+/// before.
 fn entry_of(inputs: usize, g: Geometry, seat: usize) -> u16
     requires few { inputs ≤ MAX_SIDE }
     requires there { seat < seat_count inputs g }

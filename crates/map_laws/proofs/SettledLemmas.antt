@@ -167,7 +167,7 @@ mapping-narrow net needed is_net closed g k lt =
     let cell = get_or (own_cells net needed at.0) at.1 no_cell in
     let own = (own_cells-local net needed at.0 is_net at.2 (needed-from_cell net needed at.0 at.1 at.3) at.1 at.3).narrow in
     let count : length (map (source_in (signal_source net needed) (node_at net at.0).fan_ins (first_cell net needed at.0)) cell.pins) ≡ length cell.pins =
-        length-map cell.pins (source_in (signal_source net needed) (node_at net at.0).fan_ins (first_cell net needed at.0)) in
+    length-map cell.pins (source_in (signal_source net needed) (node_at net at.0).fan_ins (first_cell net needed at.0)) in
     let least : GROUP ≤ pin_count g = GROUP-pins_of g.kind in
     subst P (sym at.4) (subst Q (sym (mapped_cell-at net needed at.0 at.1 at.2 at.3)) (omega (arith, count, own, least)))
 

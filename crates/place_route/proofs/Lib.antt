@@ -1,0 +1,4 @@
+pub mod DemandLemmas
+pub mod WritingLemmas
+pub mod RoutingLemmas
+pub mod PlanLemmas

@@ -1,0 +1,5 @@
+pub mod Lines
+pub mod Places
+pub mod Fabrics
+pub mod Reading
+pub mod Printing

@@ -1,5 +1,5 @@
 -- One turn of the loop over the lines of a text.
-use Rattle.std.proofs.Common.{◌≡◌, ℕ, ◌+◌, ◌<◌, ◌≤◌, true, false, List, [], ◌∷◌, length, take, drop, Option, Result, Ok, Err, ok_or, refl, sym, ap, subst, ◌∙◌, ◌⊎◌, inl, inr, ⊎_elim, arith, length-drop}
+use Rattle.std.proofs.Common.{◌≡◌, ℕ, ◌+◌, ◌<◌, ◌≤◌, true, false, List, [], ◌∷◌, length, take, drop, Result, Ok, Err, ok_or, refl, sym, ap, subst, ◌∙◌, ◌⊎◌, inl, inr, ⊎_elim, arith, length-drop}
 use Rattle.std.specs.Prelude.{◌==◌, IfOk}
 use Rattle.std.specs.List.{position_or_len}
 use Rattle.std.proofs.lemmas.Bool.Decides.{nat_tests}
@@ -10,7 +10,7 @@ use Rattle.fabric_defs.specs.declared.kind.CellKind.TheVariants.{FourInputs}
 use Rattle.script_defs.specs.declared.error.ScriptError.{ScriptError}
 use Rattle.script_defs.specs.declared.error.ScriptError.TheVariants.{Line, NoMemory}
 use Rattle.script_defs.specs.Scripts.{ScriptValue, IsScript}
-use Rattle.script_defs.specs.Lines.{lines, line_words, Statement, statements_from, line_behind}
+use Rattle.script_defs.specs.Lines.{lines, line_words, statements_from, line_behind}
 use Rattle.script_defs.specs.Reading.{Draft, start, with_words, with_statements, value_of, read_statements, reading}
 use Rattle.script_laws.proofs.Following.{value_read, fault_read}
 use Rattle.script_laws.proofs.Drafts.{script_of_text, kind_of_text}

@@ -1,5 +1,5 @@
 -- What a reader has read so far.
-use Rattle.std.specs.Prelude.{ℕ, ◌≤◌, List, length, map}
+use Rattle.std.specs.Prelude.{◌≤◌, length}
 use Rattle.script_defs.specs.declared.command.Command.{Command}
 use Rattle.script_defs.specs.declared.limits.TheConstants.{MAX_COMMANDS}
 use Rattle.script_defs.specs.Commands as commands

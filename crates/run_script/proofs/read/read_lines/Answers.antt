@@ -1,6 +1,6 @@
-use Rattle.std.proofs.Common.{◌≡◌, ◌+◌, ℕ, take, drop, length, refl, ap, ◌∙◌, arith}
+use Rattle.std.proofs.Common.{◌≡◌, take, drop, refl, ap, ◌∙◌, arith}
 use Rattle.std.proofs.lemmas.Result.{err_from_is_err_and}
-use Rattle.script_defs.specs.Lines.{lines, line_words}
+use Rattle.script_defs.specs.Lines.{line_words}
 use Rattle.script_defs.specs.Reading.{read_statements}
 use Rattle.run_script.specs.Views.{texts}
 use Rattle.run_script.specs.Readers.{draft_of}

@@ -16,5 +16,6 @@ invariant-loop-rest l = record {
   bound : l.at + length l.rest ≤ length l.text + 1;
 }
 
+-- each turn leaves fewer bytes
 abbrev pub decreases-loop-rest : goal.decreases-loop-rest
 decreases-loop-rest l = length l.rest

@@ -2,7 +2,7 @@
 -- have the places behind the pads, by their numbers.
 use Rattle.std.specs.Prelude.{◌≡◌, ℕ, zero, suc, ◌+◌, ◌-◌, ◌*◌, ◌<◌, List, ◌∷◌, length, map, All, nat_lt, slice_index, if◌then◌else◌}
 use Rattle.std.specs.Int.{bit_at}
-use Rattle.fabric_defs.specs.Geometries.{GeometryValue}
+use Rattle.fabric_defs.specs.Geometries.{GeometryValue, cell_count}
 use Rattle.fabric_defs.specs.Configurations.{ConfigValue}
 use Rattle.fabric_defs.specs.Wirings.{Wiring, Wired, channel}
 use Rattle.lanes_defs.specs.declared.TheConstants.{LANES}
@@ -10,6 +10,10 @@ use Rattle.lanes_defs.specs.declared.TheConstants.{LANES}
 -- the place of the cell of this number
 abbrev pub cell_place : GeometryValue → ℕ → ℕ
 cell_place g cell = g.input_pads + 1 + cell
+
+-- how many places there are
+abbrev pub place_count : GeometryValue → ℕ
+place_count g = cell_place g (cell_count g)
 
 -- the bit at a place, where the input pads have the bits x, and 0 past them
 abbrev pub place_bit : GeometryValue → List ℕ → List ℕ → ℕ → ℕ
@@ -35,3 +39,10 @@ abbrev pub HaveValues : ConfigValue → (ℕ → List ℕ) → ℕ → List ℕ 
 HaveValues config inputs count words = (j : ℕ) (w : Wiring) → j < LANES
     → Wired config (inputs j) w → (p : ℕ) → p < cell_place config.geometry count
     → bit_at (slice_index words p) j ≡ place_bit config.geometry (inputs j) w.cells p
+
+-- The cells of a column got their words: whatever the inputs are, where the old words have the bits
+-- of the cells before the column, the new ones also have those of its cells.
+abbrev pub GivesColumn : ConfigValue → ℕ → List ℕ → List ℕ → Type 0
+GivesColumn config column old new = (inputs : ℕ → List ℕ)
+    → HaveValues config inputs (column * config.geometry.rows) old
+    → HaveValues config inputs ((column + 1) * config.geometry.rows) new

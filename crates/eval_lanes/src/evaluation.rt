@@ -12,7 +12,7 @@ ghost use Rattle.fabric_defs.specs.Wirings.{FabOut, pad_bit, table_bit};
 ghost use Rattle.lanes_defs.specs.Lanes.{lane};
 ghost use Rattle.lanes_defs.specs.declared.TheConstants.{LANES};
 ghost use Rattle.eval_lanes.specs.Blocks.{words_of};
-ghost use Rattle.eval_lanes.specs.Places.{NamesChannel, HaveValues, cell_place, seen_bit};
+ghost use Rattle.eval_lanes.specs.Places.{NamesChannel, HaveValues, GivesColumn, place_count, seen_bit};
 
 use crate::blocks::CellBlock;
 use crate::places::{name_first_channel, switch_tracks};
@@ -34,8 +34,7 @@ fn cell_word<W: CellBlock>(
     requires column { column < config.now.geometry.columns }
     requires row { row < config.now.geometry.rows }
     requires tracks { NamesChannel config.now column tracks.now }
-    requires values { cell_place config.now.geometry (cell_count config.now.geometry)
-        ≡ length values.now }
+    requires values { place_count config.now.geometry ≡ length values.now }
     ensures { (i j : ℕ) → i < W.width → j < LANES
         → let bits = lane (words_of W.word values.now i) j in
         bit_at (W.word result i) j ≡ table_bit (table config.now column row)
@@ -58,8 +57,7 @@ fn put_cells_of<W: CellBlock>(
     requires kind { kind ≡ config.now.geometry.kind }
     requires column { column < config.now.geometry.columns }
     requires tracks { NamesChannel config.now column tracks.now }
-    requires values { cell_place config.now.geometry (cell_count config.now.geometry)
-        ≡ length values.old }
+    requires values { place_count config.now.geometry ≡ length values.old }
     ensures places { length values.new ≡ length values.old }
     ensures cells { (i : ℕ) (inputs : ℕ → List ℕ) → i < W.width
         → HaveValues config.now inputs (column * config.now.geometry.rows)
@@ -79,8 +77,7 @@ fn put_cells_of<W: CellBlock>(
 fn put_cells<W: CellBlock>(config: &Config, column: u32, tracks: &Words<u32>, values: &mut Words<W>)
     requires column { column < config.now.geometry.columns }
     requires tracks { NamesChannel config.now column tracks.now }
-    requires values { cell_place config.now.geometry (cell_count config.now.geometry)
-        ≡ length values.old }
+    requires values { place_count config.now.geometry ≡ length values.old }
     ensures places { length values.new ≡ length values.old }
     ensures cells { (i : ℕ) (inputs : ℕ → List ℕ) → i < W.width
         → HaveValues config.now inputs (column * config.now.geometry.rows)
@@ -102,8 +99,7 @@ fn put_cells<W: CellBlock>(config: &Config, column: u32, tracks: &Words<u32>, va
 /// the last channel carries.
 pub(crate) fn sweep<W: CellBlock>(config: &Config, tracks: &mut Words<u32>, values: &mut Words<W>)
     requires tracks { length tracks.old ≡ config.now.geometry.tracks + 1 }
-    requires values { cell_place config.now.geometry (cell_count config.now.geometry)
-        ≡ length values.old }
+    requires values { place_count config.now.geometry ≡ length values.old }
     ensures known { IsConfig config.now }
     ensures places { length values.new ≡ length values.old }
     ensures channel { NamesChannel config.now config.now.geometry.columns tracks.new }

@@ -25,16 +25,16 @@ pub struct LaneWires {
 
 impl Model for LaneWires {
     ghost use Rattle.std.specs.Prelude.{◌≡◌, ◌+◌, length};
-    ghost use Rattle.fabric_defs.specs.Geometries.{GeometryValue, cell_count};
-    ghost use Rattle.eval_lanes.specs.Places.{cell_place};
+    ghost use Rattle.fabric_defs.specs.Geometries.{GeometryValue};
+    ghost use Rattle.eval_lanes.specs.Places.{place_count};
 
     ghost Value = { GeometryValue };
 
     ghost view = { λ w. w.geometry };
 
     ghost invariant = { λ w. (length w.tracks ≡ w.geometry.tracks + 1)
-        × (cell_place w.geometry (cell_count w.geometry) ≡ length w.words)
-        × (cell_place w.geometry (cell_count w.geometry) ≡ length w.blocks) };
+        × (place_count w.geometry ≡ length w.words)
+        × (place_count w.geometry ≡ length w.blocks) };
 }
 
 impl LaneWires {

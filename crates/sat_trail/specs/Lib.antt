@@ -1,0 +1,4 @@
+pub mod Watching
+pub mod Stages
+pub mod Visits
+pub mod Kept

@@ -37,10 +37,12 @@ impl Assignment {
         ensures variables { IfOk result (λ a. a.variables ≡ variables) }
         ensures empty { IfOk result (λ a. a.lits ≡ []) }
     {
+        let truths = vec![in alloc; false; 2 * variables as usize + 2]?;
+        let lits = Vec::with_capacity(alloc, variables as usize)?;
         Ok(Assignment {
             variables,
-            truths: vec![in alloc; false; 2 * variables as usize + 2]?,
-            lits: Vec::with_capacity(alloc, variables as usize)?,
+            truths,
+            lits,
         })
     }
 

@@ -38,10 +38,9 @@ impl Links {
         ensures size { IfOk result (λ l. l.size ≡ size) }
         ensures lists { IfOk result (λ l. l.lists ≡ replicate lists []) }
     {
-        Ok(Links {
-            next: vec![in alloc; 0u32; size as usize]?,
-            heads: vec![in alloc; 0u32; lists]?,
-        })
+        let next = vec![in alloc; 0u32; size as usize]?;
+        let heads = vec![in alloc; 0u32; lists]?;
+        Ok(Links { next, heads })
     }
 
     /// Takes the first number of a list, if it has one.

@@ -5,3 +5,6 @@ pub mod SettledLemmas
 pub mod PlaceLemmas
 pub mod LevelLemmas
 pub mod StageLemmas
+pub mod LookLemmas
+pub mod TurnLemmas
+pub mod VisitCases

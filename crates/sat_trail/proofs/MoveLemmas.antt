@@ -5,8 +5,7 @@ use Rattle.clause_defs.specs.Literals.{Literal, negation}
 use Rattle.clause_defs.specs.Clauses.{Lits, Has}
 use Rattle.pch_base.proofs.SetLemmas.{Has-append}
 use Rattle.sat_trail.specs.Watching.{no_literal, lit_at, other, lits_at, IsBound, AreWatches, IsWatched}
-use Rattle.sat_trail.specs.Stages.{IsWatchedAt, IsStage, KeepsStages}
-use Rattle.sat_trail.specs.declared.levels.Stage.{Stage}
+use Rattle.sat_trail.specs.Stages.{KeepsStages}
 use Rattle.sat_trail.proofs.OtherLemmas.{other_other, other_ne}
 
 -- what stands in the first n elements stands in the list
@@ -72,6 +71,6 @@ module _ (clauses : List (Option Lits)) (loose : List ℕ) (watch later : Lits) 
 
   -- and so does every stage
   pub moved_stages : (t : Lits) → (Has t (negation m) → ⊥) → (Has t (lit_at watch w) → ⊥) → KeepsStages clauses loose watch later t
-  moved_stages t open_still false_before s stage watched =
-      moved_watched (take s.len t) (take s.done t) (λ h. open_still (has_take s.done t (negation m) h))
-      (λ h. false_before (has_take s.len t (lit_at watch w) h)) watched
+  moved_stages t open_still false_before n done watched =
+      moved_watched (take n t) (take done t) (λ h. open_still (has_take done t (negation m) h))
+      (λ h. false_before (has_take n t (lit_at watch w) h)) watched

@@ -1,5 +1,5 @@
 -- What is watched when a literal comes, a level is opened, or the trail goes back.
-use Rattle.std.proofs.Common.{◌≡◌, ◌≢◌, ◌⊎◌, ℕ, ◌+◌, ◌<◌, ◌≤◌, not, Bool, true, false, List, [], ◌∷◌, ◌++◌, length, get_or, take, Option, inl, inr, refl, sym, ap, ◌∙◌, subst, subst₂, arith, length-take-le, get_or-take, take-take}
+use Rattle.std.proofs.Common.{◌≡◌, ◌≢◌, ◌⊎◌, ℕ, ◌+◌, ◌<◌, ◌≤◌, not, Bool, true, false, List, [], ◌∷◌, ◌++◌, length, get_or, take, Option, inl, inr, refl, sym, ap, ◌∙◌, subst, subst₂, arith, length-take-le, get_or-take, take-take, take_all}
 use Rattle.std.proofs.lemmas.Bool.{cases_lt}
 use Rattle.std.proofs.lemmas.List.{length_push, get_or_push, get_or_append_left}
 use Rattle.clause_defs.specs.Literals.{Literal, negation, code}
@@ -8,7 +8,7 @@ use Rattle.pch_base.proofs.SetLemmas.{Has-append, Has-take_next}
 use Rattle.link_lists.specs.Linked.{list_at}
 use Rattle.trail_defs.specs.Assignments.{IsAt}
 use Rattle.sat_trail.specs.Watching.{lit_at, other, IsBound, IsWatched, AreListed, AreAnswered}
-use Rattle.sat_trail.specs.Stages.{first_stage, stage_at, IsStage, IsWatchedAt, AreStages}
+use Rattle.sat_trail.specs.Stages.{first_stage, stage_at, IsStage, IsWatchedAt, AreStages, KeepsStages}
 use Rattle.sat_trail.specs.declared.levels.Stage.{Stage}
 use Rattle.sat_trail.proofs.PlaceLemmas.{take_grown, take_before_new}
 
@@ -47,6 +47,18 @@ module _ (clauses : List (Option Lits)) (loose : List ℕ) (watch t : Lits) wher
       ]
 
   module _ (done : ℕ) (stages : List Stage) (are : AreStages clauses loose watch t done stages) where
+    -- the watches moved
+    pub stages_kept : (later : Lits) → KeepsStages clauses loose watch later t → AreStages clauses loose later t done stages
+    stages_kept later keeps = record {
+      passed = are.passed;
+      now =
+        let all : take (length t) t ≡ t = take_all (length t) t (omega arith) in
+        subst (λ u. IsWatched clauses loose later u (take done t)) all
+        (keeps (length t) done (subst (λ u. IsWatched clauses loose watch u (take done t)) (sym all) are.now));
+      each = λ j lt. let e = are.each j lt in (e.0, keeps (stage_at stages j).len (stage_at stages j).done e.1);
+      rising = are.rising;
+    }
+
     -- a literal comes at the present level
     pub stages_more : (l : Literal) → AreStages clauses loose watch (t ++ l ∷ []) done stages
     stages_more l = record {

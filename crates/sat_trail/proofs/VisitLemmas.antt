@@ -86,7 +86,8 @@ module _ (clauses : List (Option Lits)) (loose : List ℕ) (watch later : Lits) 
           (was.0, moved.others v (apart_from_w 0 v old) ∙ was.1)
     ]
 
-    one_same : list_at pushed 1 ≡ list_at lists 1
+    -- and list 1 stays
+    pub one_same : list_at pushed 1 ≡ list_at lists 1
     one_same = pushed_other 1 (λ e. absurd (omega arith)) ∙ popped_other 1 (λ e. absurd (omega arith))
 
     -- the watches stand in the lists of their literals

@@ -1,4 +1,6 @@
 pub mod Watching
 pub mod Stages
 pub mod Visits
+pub mod Looks
+pub mod Loosening
 pub mod Kept

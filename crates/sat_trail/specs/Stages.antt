@@ -23,10 +23,10 @@ pub record IsStage (n : ℕ) (s : Stage) : Type 0 where
   pub within : s.len < n
   pub passed : s.done ≤ s.len
 
--- each stage that is passed on stays watched by the new watches
+-- whatever front of the trail was watched is watched by the new watches
 abbrev pub KeepsStages : List (Option Lits) → List ℕ → Lits → Lits → Lits → Type 0
 KeepsStages clauses loose watch later t =
-    (s : Stage) → IsStage (length t) s → IsWatchedAt clauses loose watch t s → IsWatchedAt clauses loose later t s
+    (n done : ℕ) → IsWatched clauses loose watch (take n t) (take done t) → IsWatched clauses loose later (take n t) (take done t)
 
 -- every stage is watched, and so is the present
 pub record AreStages (clauses : List (Option Lits)) (loose : List ℕ) (watch t : Lits) (done : ℕ) (stages : List Stage) : Type 0 where

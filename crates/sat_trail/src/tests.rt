@@ -6,12 +6,12 @@ use std::test::Fail;
 #[test]
 fn a_conflict_has_its_reason(rt: HostRuntime) -> Result<(), Fail> {
     let mut list = Clauses::new(rt.alloc());
-    list.push_lits(&[Lit::new(1), Lit::new(2)]).map_err(|_| Fail::from("memory"))?;
-    list.push_lits(&[Lit::new(-1), Lit::new(2)]).map_err(|_| Fail::from("memory"))?;
-    list.push_lits(&[Lit::new(-2), Lit::new(1)]).map_err(|_| Fail::from("memory"))?;
-    list.push_lits(&[Lit::new(-2), Lit::new(-1)]).map_err(|_| Fail::from("memory"))?;
-    let set = ClauseSet::from_clauses(rt.alloc(), 2, list).map_err(|_| Fail::from("memory"))?;
-    let mut trail = Trail::open(rt.alloc(), &set, 0, 0).map_err(|_| Fail::from("memory"))?;
+    list.push_lits(&[Lit::new(1), Lit::new(2)])?;
+    list.push_lits(&[Lit::new(-1), Lit::new(2)])?;
+    list.push_lits(&[Lit::new(-2), Lit::new(1)])?;
+    list.push_lits(&[Lit::new(-2), Lit::new(-1)])?;
+    let set = ClauseSet::from_clauses(rt.alloc(), 2, list)?;
+    let mut trail = Trail::open(rt.alloc(), &set, 0, 0)?;
     trail.assign(Lit::new(1));
     let conflict = trail.propagate();
     assert_eq!(rt; trail.level(2), 1);

@@ -8,8 +8,9 @@ ghost use Rattle.std.specs.Prelude.{◌≡◌, ◌≢◌, ◌-◌, ◌^◌, ◌<
 ghost use Rattle.clause_defs.specs.Literals.{Literal, negation};
 ghost use Rattle.clause_defs.specs.Clauses.{Has, WithinVariables};
 ghost use Rattle.link_lists.specs.Linked.{list_at};
-ghost use Rattle.sat_trail.specs.Watching.{other, AreOver, HasSizes, AreWatches, AreVisited};
+ghost use Rattle.sat_trail.specs.Watching.{other, HasSizes};
 ghost use Rattle.sat_trail.specs.Visits.{IsVisit};
+ghost use Rattle.sat_trail.specs.Looks.{IsVisiting};
 
 use crate::watches::Watches;
 use assignment::Assignment;
@@ -62,14 +63,9 @@ pub fn visit(
     values: &Assignment,
     x: Lit,
 ) -> Option<Step>
-    requires held { AreOver values.now.variables region.now.held }
-    requires sizes { HasSizes region.now.held values.now.variables watches.old.links }
-    requires watches {
-        AreWatches region.now.held (list_at watches.old.links.lists 1) watches.old.watch.items
-    }
-    requires visited {
-        AreVisited region.now.held (list_at watches.old.links.lists 1)
-            watches.old.watch.items watches.old.links.lists x
+    requires visiting {
+        IsVisiting region.now.held values.now.variables
+            watches.old.watch.items watches.old.links x
     }
     requires is_false { Has values.now.lits (negation x) }
     ensures end { IfNone result (list_at watches.old.links.lists 0 ≡ []) }

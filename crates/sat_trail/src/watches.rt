@@ -15,10 +15,9 @@ pub struct Watches {
 impl Watches {
     /// No watches, with room for two of each of so many clauses.
     pub fn new(alloc: Global, variables: u32, blocks: u32) -> Result<Watches, NoMemory> {
-        Ok(Watches {
-            watch: vec![in alloc; Lit::new(1); 2 * blocks as usize]?,
-            links: Links::new(alloc, 2 * blocks, 2 * variables as usize + 4)?,
-        })
+        let watch = vec![in alloc; Lit::new(1); 2 * blocks as usize]?;
+        let links = Links::new(alloc, 2 * blocks, 2 * variables as usize + 4)?;
+        Ok(Watches { watch, links })
     }
 
     /// Takes the watches of the clause at this place out of all lists.

@@ -43,7 +43,8 @@ apart_push (k ∷ ks) l apart new = (
     | inr (inl e) ↦ λ same. new k (inl refl) (sym same ∙ ap (λ (x : Literal). x.variable) (sym e))
     | inr (inr none) ↦ absurd none
   ],
-  apart_push ks l apart.1 (λ m has. new m (inr has)))
+  apart_push ks l apart.1 (λ m has. new m (inr has)),
+)
 
 -- without its last literal
 pub apart_front : (t : Lits) (l : Literal) → AreApart (t ++ l ∷ []) → AreApart t
@@ -78,7 +79,8 @@ unfolding IsDistinct below_one
 distinct [] apart low = tt
 distinct (l ∷ ls) apart low = (
   all_apart (l.variable - 1) ls (λ m has e. let a = low m (inr has) in let b = low l (inl refl) in apart.0 m has (omega arith)),
-  distinct ls apart.1 (λ m has. low m (inr has)))
+  distinct ls apart.1 (λ m has. low m (inr has)),
+)
 
 -- what the test finds is a variable
 below_any : (q n : ℕ) (ls : Lits) → ((l : Literal) → Has ls l → below_one l < n) → list_any (eqb q) (map below_one ls) ≡ true → q < n
@@ -93,7 +95,7 @@ pub few_literals : (variables : ℕ) (t : Lits) → IsAssignmentOf variables t �
 unfolding below_one
 few_literals variables t known =
     let bound = length-le_from_distinct_below (map below_one t) variables
-        (distinct t known.apart (λ l has. (known.literals l has).0.0))
-        (λ q e. below_any q variables t (λ l has. let a = (known.literals l has).0.0 in let b = (known.literals l has).1 in omega arith) e) in
+    (distinct t known.apart (λ l has. (known.literals l has).0.0))
+    (λ q e. below_any q variables t (λ l has. let a = (known.literals l has).0.0 in let b = (known.literals l has).1 in omega arith) e) in
     let len = length-map t below_one in
     omega arith

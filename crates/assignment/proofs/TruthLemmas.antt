@@ -27,15 +27,17 @@ module _ (variables : ℕ) (truths : List Bool) (lits : Lits) (are : AreTruths v
       put_held : (m : Literal) → (get_or (set truths (code l) true) (code m) false ≡ true) ↔ Has (lits ++ l ∷ []) m
       put_held m = elim (cases_eq (code m) (code l)) [
         | inl e ↦ (
-            λ _. (Has-append lits (l ∷ []) m).1 (inr (inl (code_injective l m (sym e)))),
-            λ _. ap (λ k. get_or (set truths (code l) true) k false) e ∙ get_or-set_same truths (code l) true false (code_inside l within))
+          λ _. (Has-append lits (l ∷ []) m).1 (inr (inl (code_injective l m (sym e)))),
+          λ _. ap (λ k. get_or (set truths (code l) true) k false) e ∙ get_or-set_same truths (code l) true false (code_inside l within),
+        )
         | inr ne ↦ (
-            λ h. (Has-append lits (l ∷ []) m).1 (inl ((are.held m).0 (sym (get_or-set_other truths (code l) (code m) true false ne) ∙ h))),
-            λ h. elim ((Has-append lits (l ∷ []) m).0 h) [
-              | inl old ↦ get_or-set_other truths (code l) (code m) true false ne ∙ (are.held m).1 old
-              | inr (inl e) ↦ absurd (ne (ap code (sym e)))
-              | inr (inr none) ↦ absurd none
-            ])
+          λ h. (Has-append lits (l ∷ []) m).1 (inl ((are.held m).0 (sym (get_or-set_other truths (code l) (code m) true false ne) ∙ h))),
+          λ h. elim ((Has-append lits (l ∷ []) m).0 h) [
+            | inl old ↦ get_or-set_other truths (code l) (code m) true false ne ∙ (are.held m).1 old
+            | inr (inl e) ↦ absurd (ne (ap code (sym e)))
+            | inr (inr none) ↦ absurd none
+          ],
+        )
       ]
 
       -- the truths say so of it
@@ -62,15 +64,17 @@ module _ (variables : ℕ) (truths : List Bool) (lits : Lits) (are : AreTruths v
       dropped_held : (m : Literal) → (get_or (set truths (code l) false) (code m) false ≡ true) ↔ Has fewer m
       dropped_held m = elim (cases_eq (code m) (code l)) [
         | inl e ↦ (
-            λ h. absurd (true≢false (sym h ∙ ap (λ k. get_or (set truths (code l) false) k false) e ∙ get_or-set_same truths (code l) false false (code_inside l within))),
-            λ h. absurd (was_apart m h (ap (λ (x : Literal). x.variable) (code_injective m l e))))
+          λ h. absurd (true≢false (sym h ∙ ap (λ k. get_or (set truths (code l) false) k false) e ∙ get_or-set_same truths (code l) false false (code_inside l within))),
+          λ h. absurd (was_apart m h (ap (λ (x : Literal). x.variable) (code_injective m l e))),
+        )
         | inr ne ↦ (
-            λ h. elim ((Has-append fewer (l ∷ []) m).0 (subst (λ t. Has t m) is ((are.held m).0 (sym (get_or-set_other truths (code l) (code m) false false ne) ∙ h)))) [
-              | inl old ↦ old
-              | inr (inl e) ↦ absurd (ne (ap code (sym e)))
-              | inr (inr none) ↦ absurd none
-            ],
-            λ h. get_or-set_other truths (code l) (code m) false false ne ∙ (are.held m).1 (subst (λ t. Has t m) (sym is) ((Has-append fewer (l ∷ []) m).1 (inl h))))
+          λ h. elim ((Has-append fewer (l ∷ []) m).0 (subst (λ t. Has t m) is ((are.held m).0 (sym (get_or-set_other truths (code l) (code m) false false ne) ∙ h)))) [
+            | inl old ↦ old
+            | inr (inl e) ↦ absurd (ne (ap code (sym e)))
+            | inr (inr none) ↦ absurd none
+          ],
+          λ h. get_or-set_other truths (code l) (code m) false false ne ∙ (are.held m).1 (subst (λ t. Has t m) (sym is) ((Has-append fewer (l ∷ []) m).1 (inl h))),
+        )
       ]
 
       -- the truths say so of the others

@@ -27,7 +27,7 @@ impl Model for Assignment {
     ghost view = { λ a. record { variables = a.variables; lits = a.lits.items } };
 
     ghost invariant = { λ a.
-      AreTruths a.variables a.truths.items a.lits.items × (a.variables ≤ vec_capacity a.lits) };
+        AreTruths a.variables a.truths.items a.lits.items × (a.variables ≤ vec_capacity a.lits) };
 }
 
 impl Assignment {
@@ -83,12 +83,8 @@ impl Assignment {
     pub fn value(&self, v: u32) -> Option<bool>
         requires low { 1 ≤ v }
         requires high { v ≤ self.now.variables }
-        ensures some {
-            IfSome result (λ b. Has self.now.lits (record { variable = v; positive = b }))
-        }
-        ensures none {
-            IfNone result (IsFree self.now.lits (record { variable = v; positive = true }))
-        }
+        ensures some { IfSome result (λ b. Has self.now.lits (record { variable = v; positive = b })) }
+        ensures none { IfNone result (IsFree self.now.lits (record { variable = v; positive = true })) }
     {
         if self.truths[2 * v as usize + 1] {
             Some(true)

@@ -12,6 +12,14 @@ pub record AreNow (next heads : List ℕ) (lists : List (List ℕ)) : Type 0 whe
   pub linked : IsLinkedBy next heads (walks next heads)
   pub are : walks next heads ≡ lists
 
+-- the first number w of list l was taken: what the lists are then
+pub record IsPopped (next heads : List ℕ) (lists : List (List ℕ)) (l w : ℕ) : Type 0 where
+  pub linked : IsLinkedBy next heads (walks next heads)
+  pub first : list_at lists l ≡ w ∷ list_at (walks next heads) l
+  pub rest : walks next heads ≡ set lists l (list_at (walks next heads) l)
+  pub out : (k : ℕ) → Has (list_at (walks next heads) k) w → ⊥
+  pub inside : w < length next
+
 -- lists that are linked are the walked ones
 now : (next heads : List ℕ) (lists : List (List ℕ)) → IsLinkedBy next heads lists → AreNow next heads lists
 now next heads lists linked =
@@ -27,8 +35,9 @@ module _ (next heads : List ℕ) (lists : List (List ℕ)) (linked : IsLinkedBy 
   empty_list l e = ends_at_once next (get_or heads l 0) (list_at lists l) (linked.chains l) e
 
   -- the first number of list l is taken
-  module _ (l w : ℕ) (lt : l < length heads) (read : get_or heads l 0 ≡ w + 1) where
-    front : Begins next w (list_at lists l)
+  module _ (l w h : ℕ) (lt : l < length heads) (read : get_or heads l 0 ≡ w + 1) (h_is : h ≡ get_or next w 0) where
+    -- the list, split at its first number
+    abbrev pub front : Begins next w (list_at lists l)
     front = begins next (get_or heads l 0) w (list_at lists l) (linked.chains l) read
 
     -- what follows it
@@ -51,49 +60,45 @@ module _ (next heads : List ℕ) (lists : List (List ℕ)) (linked : IsLinkedBy 
       | inr ne ↦ subst (λ ws. Has ws x) (fewer_other k ne) has
     ]
 
-    fewer_linked : IsLinkedBy next (set heads l (get_or next w 0)) fewer
+    fewer_linked : IsLinkedBy next (set heads l h) fewer
     fewer_linked = record {
-      count = length-set lists l rest ∙ linked.count ∙ sym (length-set heads l (get_or next w 0));
+      count = length-set lists l rest ∙ linked.count ∙ sym (length-set heads l h);
       chains = λ k. elim (cases_eq k l) [
-        | inl e ↦ subst (λ j. Chain next (get_or (set heads l (get_or next w 0)) j 0) (list_at fewer j)) (sym e)
-            (subst₂ (λ h ws. Chain next h ws) (sym (get_or-set_same heads l (get_or next w 0) 0 lt)) (sym fewer_same) front.goes_on)
-        | inr ne ↦ subst₂ (λ h ws. Chain next h ws) (sym (get_or-set_other heads l k (get_or next w 0) 0 ne)) (sym (fewer_other k ne)) (linked.chains k)
+        | inl e ↦ subst (λ j. Chain next (get_or (set heads l h) j 0) (list_at fewer j)) (sym e)
+            (subst₂ (λ g ws. Chain next g ws) (sym (get_or-set_same heads l h 0 lt ∙ h_is)) (sym fewer_same) front.goes_on)
+        | inr ne ↦ subst₂ (λ g ws. Chain next g ws) (sym (get_or-set_other heads l k h 0 ne)) (sym (fewer_other k ne)) (linked.chains k)
       ];
       apart = λ j k x a b. linked.apart j k x (was_there j x a) (was_there k x b);
     }
 
-    -- the lists are linked without it
-    pub popped : AreNow next (set heads l (get_or next w 0)) fewer
-    popped = now next (set heads l (get_or next w 0)) fewer fewer_linked
+    are_fewer : walks next (set heads l h) ≡ fewer
+    are_fewer = walks_are next (set heads l h) fewer fewer_linked
 
-    -- it was the first
-    pub popped_first : list_at lists l ≡ w ∷ list_at fewer l
-    popped_first = front.is ∙ ap (λ ws. w ∷ ws) (sym fewer_same)
-
-    -- only list l changed
-    pub popped_rest : fewer ≡ set lists l (list_at fewer l)
-    popped_rest = ap (set lists l) (sym fewer_same)
-
-    -- and is in no list now
-    pub popped_out : (k : ℕ) → Has (list_at fewer k) w → ⊥
-    popped_out k has = elim (cases_eq k l) [
+    out_of_fewer : (k : ℕ) → Has (list_at fewer k) w → ⊥
+    out_of_fewer k has = elim (cases_eq k l) [
       | inl e ↦ front.once (subst (λ ws. Has ws w) fewer_same (subst (λ j. Has (list_at fewer j) w) e has))
       | inr ne ↦ ne (linked.apart k l w (was_there k w has) (subst (λ ws. Has ws w) (sym front.is) (inl refl)))
     ]
 
-    -- it is one of the numbers
-    pub popped_inside : w < length next
-    popped_inside = front.inside
+    -- the lists are linked without it
+    pub popped : IsPopped next (set heads l h) lists l w
+    popped = record {
+      linked = subst (IsLinkedBy next (set heads l h)) (sym are_fewer) fewer_linked;
+      first = front.is ∙ ap (λ ws. w ∷ ws) (sym (ap (λ ls. list_at ls l) are_fewer ∙ fewer_same));
+      rest = are_fewer ∙ ap (set lists l) (sym (ap (λ ls. list_at ls l) are_fewer ∙ fewer_same));
+      out = λ k has. out_of_fewer k (subst (λ ls. Has (list_at ls k) w) are_fewer has);
+      inside = front.inside;
+    }
 
   -- a number that is in no list comes in front of list l
-  module _ (l w : ℕ) (lt : l < length heads) (inside : w < length next) (out : (k : ℕ) → Has (list_at lists k) w → ⊥) where
+  module _ (l w h : ℕ) (lt : l < length heads) (inside : w < length next) (out : (k : ℕ) → Has (list_at lists k) w → ⊥) (h_is : h ≡ get_or heads l 0) where
     -- the lists with it
     abbrev pub more : List (List ℕ)
     more = set lists l (w ∷ list_at lists l)
 
     -- what follows each number then
     abbrev pub next2 : List ℕ
-    next2 = set next w (get_or heads l 0)
+    next2 = set next w h
 
     -- the first numbers then
     abbrev pub heads2 : List ℕ
@@ -106,7 +111,7 @@ module _ (next heads : List ℕ) (lists : List (List ℕ)) (linked : IsLinkedBy 
     more_other k ne = get_or-set_other lists l k (w ∷ list_at lists l) [] ne
 
     stays : (k : ℕ) → Chain next2 (get_or heads k 0) (list_at lists k)
-    stays k = chain_set next (get_or heads k 0) (list_at lists k) w (get_or heads l 0) (linked.chains k) (out k)
+    stays k = chain_set next (get_or heads k 0) (list_at lists k) w h (linked.chains k) (out k)
 
     is_new : (k x : ℕ) → Has (list_at more k) x → ((k ≡ l) × (w ≡ x)) ⊎ Has (list_at lists k) x
     is_new k x has = elim (cases_eq k l) [
@@ -130,8 +135,8 @@ module _ (next heads : List ℕ) (lists : List (List ℕ)) (linked : IsLinkedBy 
     ]
 
     begin_there : Chain next2 (w + 1) (w ∷ list_at lists l)
-    begin_there = (refl, let a = length-set next w (get_or heads l 0) in omega arith, out l,
-      subst (λ h. Chain next2 h (list_at lists l)) (sym (get_or-set_same next w (get_or heads l 0) 0 inside)) (stays l))
+    begin_there = (refl, let a = length-set next w h in omega arith, out l,
+      subst (λ h. Chain next2 h (list_at lists l)) (sym (get_or-set_same next w h 0 inside ∙ h_is)) (stays l))
 
     more_linked : IsLinkedBy next2 heads2 more
     more_linked = record {
@@ -149,7 +154,7 @@ module _ (next heads : List ℕ) (lists : List (List ℕ)) (linked : IsLinkedBy 
     pushed = now next2 heads2 more more_linked
 
   -- the numbers of list l go to list m, which is empty
-  module _ (l m : ℕ) (lt : l < length heads) (lm : m < length heads) (empty : list_at lists m ≡ []) where
+  module _ (l m h : ℕ) (lt : l < length heads) (lm : m < length heads) (empty : list_at lists m ≡ []) (h_is : h ≡ get_or heads l 0) where
     -- the lists while both have them
     abbrev pub between : List (List ℕ)
     between = set lists m (list_at lists l)
@@ -160,13 +165,13 @@ module _ (next heads : List ℕ) (lists : List (List ℕ)) (linked : IsLinkedBy 
 
     -- the first numbers then
     abbrev pub turned_heads : List ℕ
-    turned_heads = set (set heads m (get_or heads l 0)) l 0
+    turned_heads = set (set heads m h) l 0
 
     between_inside : l < length between
     between_inside = let a = length-set lists m (list_at lists l) in let b = list_inside l lt in omega arith
 
-    heads_inside : l < length (set heads m (get_or heads l 0))
-    heads_inside = let a = length-set heads m (get_or heads l 0) in omega arith
+    heads_inside : l < length (set heads m h)
+    heads_inside = let a = length-set heads m h in omega arith
 
     at_l : list_at turned_lists l ≡ []
     at_l = get_or-set_same between l [] [] between_inside
@@ -178,13 +183,13 @@ module _ (next heads : List ℕ) (lists : List (List ℕ)) (linked : IsLinkedBy 
     at_other k nl nm = get_or-set_other between l k [] [] nl ∙ get_or-set_other lists m k (list_at lists l) [] nm
 
     head_l : get_or turned_heads l 0 ≡ 0
-    head_l = get_or-set_same (set heads m (get_or heads l 0)) l 0 0 heads_inside
+    head_l = get_or-set_same (set heads m h) l 0 0 heads_inside
 
     head_m : m ≢ l → get_or turned_heads m 0 ≡ get_or heads l 0
-    head_m ne = get_or-set_other (set heads m (get_or heads l 0)) l m 0 0 ne ∙ get_or-set_same heads m (get_or heads l 0) 0 lm
+    head_m ne = get_or-set_other (set heads m h) l m 0 0 ne ∙ get_or-set_same heads m h 0 lm ∙ h_is
 
     head_other : (k : ℕ) → k ≢ l → k ≢ m → get_or turned_heads k 0 ≡ get_or heads k 0
-    head_other k nl nm = get_or-set_other (set heads m (get_or heads l 0)) l k 0 0 nl ∙ get_or-set_other heads m k (get_or heads l 0) 0 nm
+    head_other k nl nm = get_or-set_other (set heads m h) l k 0 0 nl ∙ get_or-set_other heads m k h 0 nm
 
     -- where a number of a list was before
     came_from : (k x : ℕ) → Has (list_at turned_lists k) x → ((k ≡ m) × Has (list_at lists l) x) ⊎ ((k ≢ l) × Has (list_at lists k) x)
@@ -211,7 +216,7 @@ module _ (next heads : List ℕ) (lists : List (List ℕ)) (linked : IsLinkedBy 
     turned_linked : IsLinkedBy next turned_heads turned_lists
     turned_linked = record {
       count = length-set between l [] ∙ length-set lists m (list_at lists l) ∙ linked.count
-        ∙ sym (length-set (set heads m (get_or heads l 0)) l 0 ∙ length-set heads m (get_or heads l 0));
+        ∙ sym (length-set (set heads m h) l 0 ∙ length-set heads m h);
       chains = λ k. elim (cases_eq k l) [
         | inl e ↦ subst (λ j. Chain next (get_or turned_heads j 0) (list_at turned_lists j)) (sym e)
             (subst₂ (λ h ws. Chain next h ws) (sym head_l) (sym at_l) refl)

@@ -13,13 +13,11 @@ use Rattle.sat_trail.proofs.PlaceLemmas.{at_has, at_cases, take_grown, take_befo
 
 module _ (clauses : List (Option Lits)) (variables : ℕ) (t : Lits) (levels reasons : List ℕ) (stages : List Stage)
     (marked : AreMarked clauses variables t levels reasons stages) where
-
   -- a literal without a value comes, at the present level
   module _ (l : Literal) (number : ℕ) (free : IsFree t l) (within : l.variable ≤ variables)
       (below : (j : ℕ) → j < length stages → (stage_at stages j).len ≤ length t)
       (implied : number ≢ 0 → IsReason clauses t number l)
       (decided : number ≡ 0 → (j : ℕ) × (j < length stages) × ((stage_at stages j).len ≡ length t)) where
-
     abbrev pub levels2 : List ℕ
     levels2 = set levels l.variable (length stages)
 
@@ -65,12 +63,12 @@ module _ (clauses : List (Option Lits)) (variables : ℕ) (t : Lits) (levels rea
           let e = reason_old i m old in
           subst (λ k. IsReason clauses (take i (t ++ l ∷ [])) k m) (sym e)
           (subst (λ b. IsReason clauses b (get_or reasons m.variable 0) m) (sym (take_grown t l i (let a = old.within in omega arith)))
-            (marked.implied i m old (λ z. some (e ∙ z))))
+          (marked.implied i m old (λ z. some (e ∙ z))))
       | inr new ↦
           let e = reason_new m new.1 in
           subst (λ k. IsReason clauses (take i (t ++ l ∷ [])) k m) (sym e)
           (subst (λ b. IsReason clauses b number m) (sym (take_before_new t l i new.0))
-            (subst (IsReason clauses t number) (sym new.1) (implied (λ z. some (e ∙ z)))))
+          (subst (IsReason clauses t number) (sym new.1) (implied (λ z. some (e ∙ z)))))
     ]
 
     put_decided : (i : ℕ) (m : Literal) → IsAt (t ++ l ∷ []) i m → get_or reasons2 m.variable 0 ≡ 0
@@ -121,14 +119,13 @@ module _ (clauses : List (Option Lits)) (variables : ℕ) (t : Lits) (levels rea
       top = λ i l at. let a = marked.top i l at in let b = length_push stages s in omega arith;
       implied = marked.implied;
       decided = λ i l at none.
-        let d = marked.decided i l at none in
-        (d.0, let a = d.1 in let b = length_push stages s in omega arith, ap (λ (q : Stage). q.len) (stage_old d.0 d.1) ∙ d.2);
+          let d = marked.decided i l at none in
+          (d.0, let a = d.1 in let b = length_push stages s in omega arith, ap (λ (q : Stage). q.len) (stage_old d.0 d.1) ∙ d.2);
     }
 
   -- the trail goes back to level n
   module _ (n : ℕ) (lt : n < length stages) (inside : (stage_at stages n).len ≤ length t)
       (rising : (i j : ℕ) → i < j → j < length stages → (stage_at stages i).len < (stage_at stages j).len) where
-
     few : length (take n stages) ≡ n
     few = length-take-le n stages (omega arith)
 
@@ -181,8 +178,8 @@ module _ (clauses : List (Option Lits)) (variables : ℕ) (t : Lits) (levels rea
       levels_are = back_levels;
       top = λ i l at. let a = back_top i l at in let b = few in omega arith;
       implied = λ i l at some.
-        subst (λ b. IsReason clauses b (get_or reasons l.variable 0) l)
-        (sym (take-take i (stage_at stages n).len t (let a = (cut i l at).1 in omega arith)))
-        (marked.implied i l (cut i l at).0 some);
+          subst (λ b. IsReason clauses b (get_or reasons l.variable 0) l)
+          (sym (take-take i (stage_at stages n).len t (let a = (cut i l at).1 in omega arith)))
+          (marked.implied i l (cut i l at).0 some);
       decided = back_decided;
     }

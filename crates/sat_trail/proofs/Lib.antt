@@ -8,3 +8,4 @@ pub mod StageLemmas
 pub mod LookLemmas
 pub mod TurnLemmas
 pub mod VisitCases
+pub mod BoundLemmas

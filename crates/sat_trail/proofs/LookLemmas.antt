@@ -81,7 +81,7 @@ module _ (clauses : List (Option Lits)) (variables level : ℕ) (loose loose1 lo
     grows = grows_on t t1 t2 levels levels1 levels2 reasons reasons1 reasons2 level first.grows second.grows;
     stages = λ done stages are. second.stages done stages (first.stages done stages are);
     marked = λ stages len within marked.
-      second.marked stages len (within_more t t1 levels levels1 reasons reasons1 level stages first.grows within) (first.marked stages len within marked);
+        second.marked stages len (within_more t t1 levels levels1 reasons reasons1 level stages first.grows within) (first.marked stages len within marked);
   }
 
   -- the watches moved, and no literal came
@@ -101,6 +101,6 @@ module _ (clauses : List (Option Lits)) (variables level : ℕ) (loose loose1 lo
     grows = grows_one t levels reasons level number l free (omega arith) (omega arith) some;
     stages = λ done stages are. stages_more clauses loose watch t done stages are l;
     marked = λ stages len within marked.
-      subst (λ k. AreMarked clauses variables (t ++ l ∷ []) (set levels l.variable k) (set reasons l.variable number) stages) len
-      (marked_put clauses variables t levels reasons stages marked l number free inside within (λ _. reason) (λ z. absurd (some z)));
+        subst (λ k. AreMarked clauses variables (t ++ l ∷ []) (set levels l.variable k) (set reasons l.variable number) stages) len
+        (marked_put clauses variables t levels reasons stages marked l number free inside within (λ _. reason) (λ z. absurd (some z)));
   }

@@ -31,7 +31,6 @@ pub moved_same : (watch : Lits) (w : ℕ) (m : Literal) → lit_at watch w ≡ m
 moved_same watch w m e = record { size = refl; at = e; others = λ v ne. refl }
 
 module _ (clauses : List (Option Lits)) (loose : List ℕ) (watch later : Lits) (w : ℕ) (m : Literal) (moved : IsMoved watch later w m) where
-
   -- the watches are two literals of each clause, if m is another literal of its own
   module _ (watches : AreWatches clauses loose watch) (member : Has (lits_at clauses (w / 2)) m) (apart : m ≢ lit_at watch (other w)) where
     moved_members : (v : ℕ) → IsBound clauses loose v → Has (lits_at clauses (v / 2)) (lit_at later v)

@@ -26,7 +26,6 @@ has_cases (k ∷ ks) l = elim (cases_eq (code k) (code l)) [
 
 module _ (clauses : List (Option Lits)) (loose : List ℕ) (watch t : Lits) (watches : AreWatches clauses loose watch)
     (watched : IsWatched clauses loose watch t t) (w : ℕ) (bound : IsBound clauses loose w) where
-
   first_in : Has (lits_at clauses (w / 2)) (lit_at watch w)
   first_in = watches.members w bound
 
@@ -40,9 +39,13 @@ module _ (clauses : List (Option Lits)) (loose : List ℕ) (watch t : Lits) (wat
     | inl first ↦ inl (lit_at watch w, first_in, first)
     | inr not_first ↦ elim (has_cases t (lit_at watch (other w))) [
       | inl second ↦ inl (lit_at watch (other w), second_in, second)
-      | inr not_second ↦ inr (lit_at watch w, lit_at watch (other w), watches.two w bound,
-          (first_in, (not_first, λ f. not_second (watched w bound f))),
-          (second_in, (not_second, λ f. not_first (subst (λ u. Has t (lit_at watch u)) (other_other w) (watched (other w) (bound_other clauses loose w bound) f)))))
+      | inr not_second ↦ inr (
+        lit_at watch w,
+        lit_at watch (other w),
+        watches.two w bound,
+        (first_in, (not_first, λ f. not_second (watched w bound f))),
+        (second_in, (not_second, λ f. not_first (subst (λ u. Has t (lit_at watch u)) (other_other w) (watched (other w) (bound_other clauses loose w bound) f)))),
+      )
     ]
   ]
 
@@ -70,7 +73,7 @@ all_settled clauses lists watch t watches watched loose b c e =
     subst (IsSettled t) is (elim (number_cases (list_at lists 1) (2 * b)) [
       | inl there ↦ inl (loose (2 * b) there)
       | inr out ↦ bound_settled clauses (list_at lists 1) watch t watches watched (2 * b) (record {
-          live = λ none. let a : get_or clauses b None ≡ None = ap (λ k. get_or clauses k None) (sym half) ∙ none in absurd (cc);
-          tied = subst (λ k. Has (list_at lists 1) (2 * k) → ⊥) (sym half) out;
-        })
+        live = λ none. let a : get_or clauses b None ≡ None = ap (λ k. get_or clauses k None) (sym half) ∙ none in absurd (cc);
+        tied = subst (λ k. Has (list_at lists 1) (2 * k) → ⊥) (sym half) out;
+      })
     ])

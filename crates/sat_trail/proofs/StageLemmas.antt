@@ -20,13 +20,12 @@ negation_negation : (l : Literal) → negation (negation l) ≡ l
 negation_negation l i = record { variable = l.variable; positive = not_not l.positive i }
 
 module _ (clauses : List (Option Lits)) (loose : List ℕ) (watch t : Lits) where
-
   -- one more true literal takes nothing away
   pub watched_more : (l : Literal) (done : ℕ) → done ≤ length t → IsWatched clauses loose watch t (take done t)
       → IsWatched clauses loose watch (t ++ l ∷ []) (take done (t ++ l ∷ []))
   watched_more l done le watched w bound has =
       (Has-append t (l ∷ []) (lit_at watch (other w))).1 (inl (watched w bound
-        (subst (λ p. Has p (negation (lit_at watch w))) (take_grown t l done le) has)))
+      (subst (λ p. Has p (negation (lit_at watch w))) (take_grown t l done le) has)))
 
   -- nor from a stage
   pub stage_more : (l : Literal) (s : Stage) → IsStage (length t) s → IsWatchedAt clauses loose watch t s → IsWatchedAt clauses loose watch (t ++ l ∷ []) s
@@ -52,9 +51,9 @@ module _ (clauses : List (Option Lits)) (loose : List ℕ) (watch t : Lits) wher
     stages_kept later keeps = record {
       passed = are.passed;
       now =
-        let all : take (length t) t ≡ t = take_all (length t) t (omega arith) in
-        subst (λ u. IsWatched clauses loose later u (take done t)) all
-        (keeps (length t) done (subst (λ u. IsWatched clauses loose watch u (take done t)) (sym all) are.now));
+          let all : take (length t) t ≡ t = take_all (length t) t (omega arith) in
+          subst (λ u. IsWatched clauses loose later u (take done t)) all
+          (keeps (length t) done (subst (λ u. IsWatched clauses loose watch u (take done t)) (sym all) are.now));
       each = λ j lt. let e = are.each j lt in (e.0, keeps (stage_at stages j).len (stage_at stages j).done e.1);
       rising = are.rising;
     }
@@ -65,8 +64,8 @@ module _ (clauses : List (Option Lits)) (loose : List ℕ) (watch t : Lits) wher
       passed = let a = are.passed in let b = length_push t l in omega arith;
       now = watched_more l done are.passed are.now;
       each = λ j lt.
-        let e = are.each j lt in
-        (record { within = let a = e.0.within in let b = length_push t l in omega arith; passed = e.0.passed }, stage_more l (stage_at stages j) e.0 e.1);
+          let e = are.each j lt in
+          (record { within = let a = e.0.within in let b = length_push t l in omega arith; passed = e.0.passed }, stage_more l (stage_at stages j) e.0 e.1);
       rising = are.rising;
     }
 
@@ -81,10 +80,11 @@ module _ (clauses : List (Option Lits)) (loose : List ℕ) (watch t : Lits) wher
       new_good : IsStage (length (t ++ l ∷ [])) s × IsWatchedAt clauses loose watch (t ++ l ∷ []) s
       new_good =
           let a = are.passed in
-          let b = length_push t l in
-          (record { within = omega arith; passed = omega arith },
-           subst₂ (λ u p. IsWatched clauses loose watch u p) (sym (take_before_new t l s.len len_is))
-             (sym (take_grown t l s.done (omega arith) ∙ ap (λ k. take k t) done_is)) are.now)
+          let b = length_push t l in (
+            record { within = omega arith; passed = omega arith },
+            subst₂ (λ u p. IsWatched clauses loose watch u p) (sym (take_before_new t l s.len len_is))
+                (sym (take_grown t l s.done (omega arith) ∙ ap (λ k. take k t) done_is)) are.now,
+          )
 
       old_good : (j : ℕ) → j < length stages → IsStage (length (t ++ l ∷ [])) (stage_at stages j) × IsWatchedAt clauses loose watch (t ++ l ∷ []) (stage_at stages j)
       old_good j lt = (stages_more l).each j lt
@@ -137,7 +137,7 @@ module _ (clauses : List (Option Lits)) (loose : List ℕ) (watch t : Lits) wher
 
       back_each : (j : ℕ) → j < length (take n stages)
           → IsStage (length (take (stage_at stages n).len t)) (stage_at (take n stages) j)
-            × IsWatchedAt clauses loose watch (take (stage_at stages n).len t) (stage_at (take n stages) j)
+          × IsWatchedAt clauses loose watch (take (stage_at stages n).len t) (stage_at (take n stages) j)
       back_each j low =
           let len = few in
           let lower : j < n = omega arith in
@@ -145,22 +145,23 @@ module _ (clauses : List (Option Lits)) (loose : List ℕ) (watch t : Lits) wher
           let up = are.rising j n lower lt in
           let passed = old.0.passed in
           let long = front_len in
-          subst (λ q. IsStage (length (take (stage_at stages n).len t)) q × IsWatchedAt clauses loose watch (take (stage_at stages n).len t) q) (sym (stage_kept j lower))
-          (record { within = omega arith; passed = passed },
-           subst₂ (λ u p. IsWatched clauses loose watch u p)
-             (sym (take-take (stage_at stages j).len (stage_at stages n).len t (omega arith)))
-             (sym (take-take (stage_at stages j).done (stage_at stages n).len t (omega arith))) old.1)
+          subst (λ q. IsStage (length (take (stage_at stages n).len t)) q × IsWatchedAt clauses loose watch (take (stage_at stages n).len t) q) (sym (stage_kept j lower)) (
+            record { within = omega arith; passed = passed },
+            subst₂ (λ u p. IsWatched clauses loose watch u p)
+                (sym (take-take (stage_at stages j).len (stage_at stages n).len t (omega arith)))
+                (sym (take-take (stage_at stages j).done (stage_at stages n).len t (omega arith))) old.1,
+          )
 
       pub stages_back : AreStages clauses loose watch (take (stage_at stages n).len t) (stage_at stages n).done (take n stages)
       stages_back = record {
         passed = let a = there.0.passed in let b = front_len in omega arith;
         now = subst (IsWatched clauses loose watch (take (stage_at stages n).len t))
-          (sym (take-take (stage_at stages n).done (stage_at stages n).len t there.0.passed)) there.1;
+            (sym (take-take (stage_at stages n).done (stage_at stages n).len t there.0.passed)) there.1;
         each = back_each;
         rising = λ i j low below.
-          let len = few in
-          let first = ap (λ (q : Stage). q.len) (stage_kept i (omega arith)) in
-          let second = ap (λ (q : Stage). q.len) (stage_kept j (omega arith)) in
-          let up = are.rising i j low (omega arith) in
-          omega arith;
+            let len = few in
+            let first = ap (λ (q : Stage). q.len) (stage_kept i (omega arith)) in
+            let second = ap (λ (q : Stage). q.len) (stage_kept j (omega arith)) in
+            let up = are.rising i j low (omega arith) in
+            omega arith;
       }

@@ -10,7 +10,6 @@ use Rattle.sat_trail.specs.Watching.{lit_at, other, IsBound, AreListed, AreVisit
 module _ (clauses : List (Option Lits)) (loose : List ℕ) (watch t : Lits) (lists turned : List (List ℕ)) (x : Literal)
     (listed : AreListed clauses loose watch lists) (high : 2 ≤ code x) (inside : code x < length lists)
     (is : turned ≡ set (set lists 0 (list_at lists (code x))) (code x) []) where
-
   at_x : list_at turned (code x) ≡ []
   at_x = ap (λ ls. list_at ls (code x)) is
       ∙ get_or-set_same (set lists 0 (list_at lists (code x))) (code x) [] [] (let a = length-set lists 0 (list_at lists (code x)) in omega arith)
@@ -38,12 +37,12 @@ module _ (clauses : List (Option Lits)) (loose : List ℕ) (watch t : Lits) (lis
         | inr ne ↦ listed.only k v two (subst (λ ws. Has ws v) (at_other k ne (λ z. absurd (omega arith))) has)
       ];
       loose_are = λ v.
-        let same = at_other 1 (λ e. absurd (omega arith)) (λ z. absurd (omega arith)) in
-        (λ h. (listed.loose_are v).0 (subst (λ ws. Has ws v) same h), λ h. subst (λ ws. Has ws v) (sym same) ((listed.loose_are v).1 h));
+          let same = at_other 1 (λ e. absurd (omega arith)) (λ z. absurd (omega arith)) in
+          (λ h. (listed.loose_are v).0 (subst (λ ws. Has ws v) same h), λ h. subst (λ ws. Has ws v) (sym same) ((listed.loose_are v).1 h));
       even = listed.even;
       left = λ v has.
-        let was = listed.only (code x) v high (subst (λ ws. Has ws v) at_0 has) in
-        (was.0, code_injective (lit_at watch v) x was.1);
+          let was = listed.only (code x) v high (subst (λ ws. Has ws v) at_0 has) in
+          (was.0, code_injective (lit_at watch v) x was.1);
     }
 
   -- and none has come back

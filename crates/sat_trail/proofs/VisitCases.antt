@@ -39,7 +39,6 @@ module _ (clauses : List (Option Lits)) (variables : ℕ) (watch t : Lits) (link
     (popped pushed : List (List ℕ)) (w p : ℕ)
     (first : list_at links.lists 0 ≡ w ∷ list_at popped 0) (rest : popped ≡ set links.lists 0 (list_at popped 0))
     (out : (k : ℕ) → Has (list_at popped k) w → ⊥) (inside : p < length popped) (put : pushed ≡ set popped p (w ∷ list_at popped p)) where
-
   codes : (v : ℕ) → IsBound clauses (list_at links.lists 1) v → 2 ≤ code (lit_at watch v)
   codes v bound = code_high variables clauses visiting.over (v / 2) (lit_at watch v) (visiting.watches.members v bound)
 
@@ -132,29 +131,32 @@ module _ (clauses : List (Option Lits)) (variables : ℕ) (watch t : Lits) (link
         visited = back_visited;
         stages = λ n done watched. watched;
         fewer = fewer_by_one not_zero;
-        step = (clause.0, ap (clause_at clauses) e ∙ number_is, λ m h. elim (cases_eq (code m) (code (lit_at watch (other w)))) [
-          | inl same ↦ subst (λ l. Has t (negation l)) (sym (code_injective m (lit_at watch (other w)) same)) beside_false
-          | inr ne ↦ others m (in_clause m h) (λ f. ne (ap code f))
-        ]);
+        step = (
+          clause.0,
+          ap (clause_at clauses) e ∙ number_is,
+          λ m h. elim (cases_eq (code m) (code (lit_at watch (other w)))) [
+            | inl same ↦ subst (λ l. Has t (negation l)) (sym (code_injective m (lit_at watch (other w)) same)) beside_false
+            | inr ne ↦ others m (in_clause m h) (λ f. ne (ap code f))
+          ],
+        );
       }
 
   -- the watch moves to another literal that isn't false
   module _ (m : Literal) (p_is : p ≡ code m) (member : Has (lits_at clauses (w / 2)) m) (apart : m ≢ lit_at watch (other w))
       (still_open : Has t (negation m) → ⊥) (w_inside : w < length watch) where
-
     m_high : 2 ≤ p
     m_high = subst (λ k. 2 ≤ k) (sym p_is) (code_high variables clauses visiting.over (w / 2) m member)
 
     pub visit_moved : IsVisit clauses t x watch links.lists (set watch w m) pushed Answered
     visit_moved = record {
       loose = one_same clauses (list_at links.lists 1) watch (set watch w m) x m links.lists popped pushed w p visiting.visited first rest out p_is m_high inside put
-        (moved_set watch w m w_inside) codes;
+          (moved_set watch w m w_inside) codes;
       watches = moved_watches clauses (list_at links.lists 1) watch (set watch w m) w m (moved_set watch w m w_inside) visiting.watches member apart;
       visited = visited_on clauses (list_at links.lists 1) watch (set watch w m) x m links.lists popped pushed w p visiting.visited first rest out p_is m_high inside put
-        (moved_set watch w m w_inside) codes;
+          (moved_set watch w m w_inside) codes;
       stages = moved_stages clauses (list_at links.lists 1) watch (set watch w m) w m (moved_set watch w m w_inside) t still_open not_true;
       fewer = fewer_by_one (λ e. let a = m_high in absurd (omega arith));
       step = λ answered. answered_on clauses (list_at links.lists 1) watch (set watch w m) x m links.lists popped pushed w p visiting.visited first rest out p_is m_high inside put
-        (moved_set watch w m w_inside) codes visiting.watches t t (λ l h. h) x_high answered
-        (λ same. absurd (still_open (subst (λ l. Has t (negation l)) (sym same) is_false)));
+          (moved_set watch w m w_inside) codes visiting.watches t t (λ l h. h) x_high answered
+          (λ same. absurd (still_open (subst (λ l. Has t (negation l)) (sym same) is_false)));
     }

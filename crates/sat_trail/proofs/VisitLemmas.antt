@@ -16,7 +16,6 @@ module _ (clauses : List (Option Lits)) (loose : List ℕ) (watch later : Lits) 
     (out : (k : ℕ) → Has (list_at popped k) w → ⊥)
     (p_is : p ≡ code m) (high : 2 ≤ p) (inside : p < length popped) (put : pushed ≡ set popped p (w ∷ list_at popped p))
     (moved : IsMoved watch later w m) where
-
   -- the watch is one of x
   pub in_hand : IsBound clauses loose w × (lit_at watch w ≡ x)
   in_hand = visited.left w (subst (λ ws. Has ws w) (sym first) (inl refl))
@@ -61,7 +60,7 @@ module _ (clauses : List (Option Lits)) (loose : List ℕ) (watch later : Lits) 
         | inl listed ↦
             let high_v = codes v bound in
             let in_popped : Has (list_at popped (code (lit_at watch v))) v =
-                subst (λ ws. Has ws v) (sym (popped_other (code (lit_at watch v)) (λ z. absurd (omega arith)))) listed in
+            subst (λ ws. Has ws v) (sym (popped_other (code (lit_at watch v)) (λ z. absurd (omega arith)))) listed in
             inl (subst (λ l. Has (list_at pushed (code l)) v) (sym (moved.others v ne)) (still (code (lit_at watch v)) v in_popped))
         | inr pending ↦ elim (subst (λ ws. Has ws v) first pending) [
           | inl same ↦ absurd (ne (sym same))
@@ -107,7 +106,7 @@ module _ (clauses : List (Option Lits)) (loose : List ℕ) (watch later : Lits) 
       | inl now ↦
           subst (λ u. Has later_t (lit_at later (other u))) now.1
           (subst (Has later_t) (sym (moved.others (other w) (other_ne w)))
-            (beside (code_injective m x (sym (now.0 ∙ p_is)))))
+          (beside (code_injective m x (sym (now.0 ∙ p_is)))))
       | inr old ↦
           let in_lists = subst (λ ws. Has ws v) (popped_other (code x) (λ z. absurd (omega arith))) old in
           let was = visited.only (code x) v two in_lists in

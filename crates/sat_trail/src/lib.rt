@@ -12,11 +12,11 @@ mod levels;
 mod loose;
 mod propagation;
 mod spread;
+#[cfg(test)]
+mod tests;
 mod trail;
 mod visit;
 mod watches;
-#[cfg(test)]
-mod tests;
 
 pub use pch_region::Full;
 pub use trail::Trail;

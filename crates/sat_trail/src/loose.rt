@@ -24,9 +24,7 @@ fn first_open(lits: &[Lit], values: &Assignment) -> Option<Lit>
     requires { WithinVariables values.now.variables lits.now }
     ensures member { IfSome result (λ m. Has lits.now m) }
     ensures open { IfSome result (λ m. Has values.now.lits (negation m) → ⊥) }
-    ensures none {
-        IfNone result ((m : Literal) → Has lits.now m → Has values.now.lits (negation m))
-    }
+    ensures none { IfNone result ((m : Literal) → Has lits.now m → Has values.now.lits (negation m)) }
 {
     for &m in lits {
         if values.holds(m.negated()) {
@@ -47,33 +45,21 @@ fn bind(watches: &mut Watches, w: u32, first: Lit, second: Lit) {
 
 // Looks at the next loose clause in list 0.
 fn look(region: &Region, watches: &mut Watches, values: &mut Values, level: u32) -> Look
-    requires settling {
-        IsSettling region.now.held values.old.assignment.variables
-            watches.old.watch.items watches.old.links
-    }
-    requires marks {
-        HasMarks values.old.assignment.variables values.old.levels.items values.old.reasons.items
-    }
-    ensures settling {
-        IsSettling region.now.held values.new.assignment.variables
-            watches.new.watch.items watches.new.links
-    }
-    ensures marks {
-        HasMarks values.new.assignment.variables values.new.levels.items values.new.reasons.items
-    }
+    requires settling { IsSettling region.now.held values.old.assignment.variables
+        watches.old.watch.items watches.old.links }
+    requires marks { HasMarks values.old.assignment.variables values.old.levels.items values.old.reasons.items }
+    ensures settling { IsSettling region.now.held values.new.assignment.variables
+        watches.new.watch.items watches.new.links }
+    ensures marks { HasMarks values.new.assignment.variables values.new.levels.items values.new.reasons.items }
     ensures variables { values.new.assignment.variables ≡ values.old.assignment.variables }
-    ensures keeps {
-        Keeps region.now.held values.old.assignment.variables level
-            (loose_in watches.old.links.lists) (loose_in watches.new.links.lists)
-            watches.old.watch.items values.old.assignment.lits
-            values.old.levels.items values.old.reasons.items
-            watches.new.watch.items values.new.assignment.lits
-            values.new.levels.items values.new.reasons.items
-    }
-    ensures outcome {
-        IsSettlingOutcome region.now.held watches.old.links.lists values.old.assignment.lits
-            watches.new.links.lists values.new.assignment.lits result
-    }
+    ensures keeps { Keeps region.now.held values.old.assignment.variables level
+        (loose_in watches.old.links.lists) (loose_in watches.new.links.lists)
+        watches.old.watch.items values.old.assignment.lits
+        values.old.levels.items values.old.reasons.items
+        watches.new.watch.items values.new.assignment.lits
+        values.new.levels.items values.new.reasons.items }
+    ensures outcome { IsSettlingOutcome region.now.held watches.old.links.lists values.old.assignment.lits
+        watches.new.links.lists values.new.assignment.lits result }
 {
     let w = match watches.links.pop(0) {
         Some(w) => w,
@@ -106,36 +92,22 @@ pub fn settle_loose(
     values: &mut Values,
     level: u32,
 ) -> Option<u32>
-    requires resting {
-        IsResting region.now.held values.old.assignment.variables
-            watches.old.watch.items watches.old.links
-    }
-    requires marks {
-        HasMarks values.old.assignment.variables values.old.levels.items values.old.reasons.items
-    }
-    ensures resting {
-        IsResting region.now.held values.new.assignment.variables
-            watches.new.watch.items watches.new.links
-    }
-    ensures marks {
-        HasMarks values.new.assignment.variables values.new.levels.items values.new.reasons.items
-    }
+    requires resting { IsResting region.now.held values.old.assignment.variables
+        watches.old.watch.items watches.old.links }
+    requires marks { HasMarks values.old.assignment.variables values.old.levels.items values.old.reasons.items }
+    ensures resting { IsResting region.now.held values.new.assignment.variables
+        watches.new.watch.items watches.new.links }
+    ensures marks { HasMarks values.new.assignment.variables values.new.levels.items values.new.reasons.items }
     ensures variables { values.new.assignment.variables ≡ values.old.assignment.variables }
-    ensures keeps {
-        Keeps region.now.held values.old.assignment.variables level
-            (list_at watches.old.links.lists 1) (list_at watches.new.links.lists 1)
-            watches.old.watch.items values.old.assignment.lits
-            values.old.levels.items values.old.reasons.items
-            watches.new.watch.items values.new.assignment.lits
-            values.new.levels.items values.new.reasons.items
-    }
-    ensures conflict {
-        IfSome result (λ k. IsInConflict region.now.held values.new.assignment.lits k)
-    }
-    ensures settled {
-        IfNone result (AreSettledIn region.now.held watches.new.links.lists
-            values.new.assignment.lits)
-    }
+    ensures keeps { Keeps region.now.held values.old.assignment.variables level
+        (list_at watches.old.links.lists 1) (list_at watches.new.links.lists 1)
+        watches.old.watch.items values.old.assignment.lits
+        values.old.levels.items values.old.reasons.items
+        watches.new.watch.items values.new.assignment.lits
+        values.new.levels.items values.new.reasons.items }
+    ensures conflict { IfSome result (λ k. IsInConflict region.now.held values.new.assignment.lits k) }
+    ensures settled { IfNone result (AreSettledIn region.now.held watches.new.links.lists
+        values.new.assignment.lits) }
 {
     let mut conflict = None;
     watches.links.turn(1, 0);

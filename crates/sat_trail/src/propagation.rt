@@ -23,42 +23,26 @@ fn pass_on(
     level: u32,
     done: &mut u32,
 ) -> Option<u32>
-    requires resting {
-        IsResting region.now.held values.old.assignment.variables
-            watches.old.watch.items watches.old.links
-    }
-    requires marks {
-        HasMarks values.old.assignment.variables values.old.levels.items values.old.reasons.items
-    }
-    requires watched {
-        IsWatched region.now.held (list_at watches.old.links.lists 1) watches.old.watch.items
-            values.old.assignment.lits (take done.old values.old.assignment.lits)
-    }
+    requires resting { IsResting region.now.held values.old.assignment.variables
+        watches.old.watch.items watches.old.links }
+    requires marks { HasMarks values.old.assignment.variables values.old.levels.items values.old.reasons.items }
+    requires watched { IsWatched region.now.held (list_at watches.old.links.lists 1) watches.old.watch.items
+        values.old.assignment.lits (take done.old values.old.assignment.lits) }
     requires passed { done.old ≤ length values.old.assignment.lits }
-    ensures resting {
-        IsResting region.now.held values.new.assignment.variables
-            watches.new.watch.items watches.new.links
-    }
-    ensures marks {
-        HasMarks values.new.assignment.variables values.new.levels.items values.new.reasons.items
-    }
-    ensures watched {
-        IsWatched region.now.held (list_at watches.new.links.lists 1) watches.new.watch.items
-            values.new.assignment.lits (take done.new values.new.assignment.lits)
-    }
+    ensures resting { IsResting region.now.held values.new.assignment.variables
+        watches.new.watch.items watches.new.links }
+    ensures marks { HasMarks values.new.assignment.variables values.new.levels.items values.new.reasons.items }
+    ensures watched { IsWatched region.now.held (list_at watches.new.links.lists 1) watches.new.watch.items
+        values.new.assignment.lits (take done.new values.new.assignment.lits) }
     ensures passed { done.new ≤ length values.new.assignment.lits }
     ensures variables { values.new.assignment.variables ≡ values.old.assignment.variables }
-    ensures keeps {
-        Keeps region.now.held values.old.assignment.variables level
-            (list_at watches.old.links.lists 1) (list_at watches.new.links.lists 1)
-            watches.old.watch.items values.old.assignment.lits
-            values.old.levels.items values.old.reasons.items
-            watches.new.watch.items values.new.assignment.lits
-            values.new.levels.items values.new.reasons.items
-    }
-    ensures conflict {
-        IfSome result (λ k. IsInConflict region.now.held values.new.assignment.lits k)
-    }
+    ensures keeps { Keeps region.now.held values.old.assignment.variables level
+        (list_at watches.old.links.lists 1) (list_at watches.new.links.lists 1)
+        watches.old.watch.items values.old.assignment.lits
+        values.old.levels.items values.old.reasons.items
+        watches.new.watch.items values.new.assignment.lits
+        values.new.levels.items values.new.reasons.items }
+    ensures conflict { IfSome result (λ k. IsInConflict region.now.held values.new.assignment.lits k) }
     ensures all { IfNone result (done.new ≡ length values.new.assignment.lits) }
 {
     while (*done as usize) < values.assignment.len() {
@@ -79,46 +63,28 @@ pub fn propagate(
     level: u32,
     done: &mut u32,
 ) -> Option<u32>
-    requires resting {
-        IsResting region.now.held values.old.assignment.variables
-            watches.old.watch.items watches.old.links
-    }
-    requires marks {
-        HasMarks values.old.assignment.variables values.old.levels.items values.old.reasons.items
-    }
-    requires watched {
-        IsWatched region.now.held (list_at watches.old.links.lists 1) watches.old.watch.items
-            values.old.assignment.lits (take done.old values.old.assignment.lits)
-    }
+    requires resting { IsResting region.now.held values.old.assignment.variables
+        watches.old.watch.items watches.old.links }
+    requires marks { HasMarks values.old.assignment.variables values.old.levels.items values.old.reasons.items }
+    requires watched { IsWatched region.now.held (list_at watches.old.links.lists 1) watches.old.watch.items
+        values.old.assignment.lits (take done.old values.old.assignment.lits) }
     requires passed { done.old ≤ length values.old.assignment.lits }
-    ensures resting {
-        IsResting region.now.held values.new.assignment.variables
-            watches.new.watch.items watches.new.links
-    }
-    ensures marks {
-        HasMarks values.new.assignment.variables values.new.levels.items values.new.reasons.items
-    }
-    ensures watched {
-        IsWatched region.now.held (list_at watches.new.links.lists 1) watches.new.watch.items
-            values.new.assignment.lits (take done.new values.new.assignment.lits)
-    }
+    ensures resting { IsResting region.now.held values.new.assignment.variables
+        watches.new.watch.items watches.new.links }
+    ensures marks { HasMarks values.new.assignment.variables values.new.levels.items values.new.reasons.items }
+    ensures watched { IsWatched region.now.held (list_at watches.new.links.lists 1) watches.new.watch.items
+        values.new.assignment.lits (take done.new values.new.assignment.lits) }
     ensures passed { done.new ≤ length values.new.assignment.lits }
     ensures variables { values.new.assignment.variables ≡ values.old.assignment.variables }
-    ensures keeps {
-        Keeps region.now.held values.old.assignment.variables level
-            (list_at watches.old.links.lists 1) (list_at watches.new.links.lists 1)
-            watches.old.watch.items values.old.assignment.lits
-            values.old.levels.items values.old.reasons.items
-            watches.new.watch.items values.new.assignment.lits
-            values.new.levels.items values.new.reasons.items
-    }
-    ensures conflict {
-        IfSome result (λ k. IsInConflict region.now.held values.new.assignment.lits k)
-    }
-    ensures settled {
-        IfNone result ((b : ℕ) (c : Lits)
-            → get_or region.now.held b None ≡ Some c → IsSettled values.new.assignment.lits c)
-    }
+    ensures keeps { Keeps region.now.held values.old.assignment.variables level
+        (list_at watches.old.links.lists 1) (list_at watches.new.links.lists 1)
+        watches.old.watch.items values.old.assignment.lits
+        values.old.levels.items values.old.reasons.items
+        watches.new.watch.items values.new.assignment.lits
+        values.new.levels.items values.new.reasons.items }
+    ensures conflict { IfSome result (λ k. IsInConflict region.now.held values.new.assignment.lits k) }
+    ensures settled { IfNone result ((b : ℕ) (c : Lits)
+        → get_or region.now.held b None ≡ Some c → IsSettled values.new.assignment.lits c) }
 {
     loop {
         match pass_on(region, watches, values, level, done) {

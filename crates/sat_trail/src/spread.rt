@@ -30,43 +30,25 @@ pub enum Look {
 }
 
 // Visits the next watch of `x`, and gives the literal that it forces its value.
-fn look(
-    region: &Region,
-    watches: &mut Watches,
-    values: &mut Values,
-    level: u32,
-    x: Lit,
-) -> Look
-    requires visiting {
-        IsVisiting region.now.held values.old.assignment.variables
-            watches.old.watch.items watches.old.links x
-    }
-    requires marks {
-        HasMarks values.old.assignment.variables values.old.levels.items values.old.reasons.items
-    }
+fn look(region: &Region, watches: &mut Watches, values: &mut Values, level: u32, x: Lit) -> Look
+    requires visiting { IsVisiting region.now.held values.old.assignment.variables
+        watches.old.watch.items watches.old.links x }
+    requires marks { HasMarks values.old.assignment.variables values.old.levels.items values.old.reasons.items }
     requires is_false { Has values.old.assignment.lits (negation x) }
-    ensures visiting {
-        IsVisiting region.now.held values.new.assignment.variables
-            watches.new.watch.items watches.new.links x
-    }
-    ensures marks {
-        HasMarks values.new.assignment.variables values.new.levels.items values.new.reasons.items
-    }
+    ensures visiting { IsVisiting region.now.held values.new.assignment.variables
+        watches.new.watch.items watches.new.links x }
+    ensures marks { HasMarks values.new.assignment.variables values.new.levels.items values.new.reasons.items }
     ensures variables { values.new.assignment.variables ≡ values.old.assignment.variables }
     ensures loose { list_at watches.new.links.lists 1 ≡ list_at watches.old.links.lists 1 }
-    ensures keeps {
-        Keeps region.now.held values.old.assignment.variables level
-            (list_at watches.old.links.lists 1) (list_at watches.new.links.lists 1)
-            watches.old.watch.items values.old.assignment.lits
-            values.old.levels.items values.old.reasons.items
-            watches.new.watch.items values.new.assignment.lits
-            values.new.levels.items values.new.reasons.items
-    }
-    ensures outcome {
-        IsOutcome region.now.held x
-            watches.old.watch.items watches.old.links.lists values.old.assignment.lits
-            watches.new.watch.items watches.new.links.lists values.new.assignment.lits result
-    }
+    ensures keeps { Keeps region.now.held values.old.assignment.variables level
+        (list_at watches.old.links.lists 1) (list_at watches.new.links.lists 1)
+        watches.old.watch.items values.old.assignment.lits
+        values.old.levels.items values.old.reasons.items
+        watches.new.watch.items values.new.assignment.lits
+        values.new.levels.items values.new.reasons.items }
+    ensures outcome { IsOutcome region.now.held x
+        watches.old.watch.items watches.old.links.lists values.old.assignment.lits
+        watches.new.watch.items watches.new.links.lists values.new.assignment.lits result }
 {
     match visit(region, watches, &values.assignment, x) {
         None => Look::Done,
@@ -87,38 +69,24 @@ pub fn spread(
     level: u32,
     x: Lit,
 ) -> Option<u32>
-    requires resting {
-        IsResting region.now.held values.old.assignment.variables
-            watches.old.watch.items watches.old.links
-    }
-    requires marks {
-        HasMarks values.old.assignment.variables values.old.levels.items values.old.reasons.items
-    }
+    requires resting { IsResting region.now.held values.old.assignment.variables
+        watches.old.watch.items watches.old.links }
+    requires marks { HasMarks values.old.assignment.variables values.old.levels.items values.old.reasons.items }
     requires is_false { Has values.old.assignment.lits (negation x) }
-    ensures resting {
-        IsResting region.now.held values.new.assignment.variables
-            watches.new.watch.items watches.new.links
-    }
-    ensures marks {
-        HasMarks values.new.assignment.variables values.new.levels.items values.new.reasons.items
-    }
+    ensures resting { IsResting region.now.held values.new.assignment.variables
+        watches.new.watch.items watches.new.links }
+    ensures marks { HasMarks values.new.assignment.variables values.new.levels.items values.new.reasons.items }
     ensures variables { values.new.assignment.variables ≡ values.old.assignment.variables }
     ensures loose { list_at watches.new.links.lists 1 ≡ list_at watches.old.links.lists 1 }
-    ensures keeps {
-        Keeps region.now.held values.old.assignment.variables level
-            (list_at watches.old.links.lists 1) (list_at watches.new.links.lists 1)
-            watches.old.watch.items values.old.assignment.lits
-            values.old.levels.items values.old.reasons.items
-            watches.new.watch.items values.new.assignment.lits
-            values.new.levels.items values.new.reasons.items
-    }
-    ensures conflict {
-        IfSome result (λ k. IsInConflict region.now.held values.new.assignment.lits k)
-    }
-    ensures answered {
-        IfNone result (AreAnswered watches.new.watch.items watches.new.links.lists
-            values.new.assignment.lits x)
-    }
+    ensures keeps { Keeps region.now.held values.old.assignment.variables level
+        (list_at watches.old.links.lists 1) (list_at watches.new.links.lists 1)
+        watches.old.watch.items values.old.assignment.lits
+        values.old.levels.items values.old.reasons.items
+        watches.new.watch.items values.new.assignment.lits
+        values.new.levels.items values.new.reasons.items }
+    ensures conflict { IfSome result (λ k. IsInConflict region.now.held values.new.assignment.lits k) }
+    ensures answered { IfNone result (AreAnswered watches.new.watch.items watches.new.links.lists
+        values.new.assignment.lits x) }
 {
     let mut conflict = None;
     watches.links.turn(x.code(), 0);

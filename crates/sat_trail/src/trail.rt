@@ -35,7 +35,7 @@ pub struct Trail {
 }
 
 impl Model for Trail {
-    ghost use Rattle.std.specs.Prelude.{length};
+    ghost use Rattle.std.specs.Prelude.{◌≤◌, length, vec_capacity};
     ghost use Rattle.trail_defs.specs.Trails.{Assigned};
     ghost use Rattle.sat_trail.specs.Kept.{IsKept};
 
@@ -53,9 +53,10 @@ impl Model for Trail {
     } };
 
     ghost invariant = { λ t.
-      IsKept t.values.assignment.variables t.originals t.region.held t.values.assignment.lits
+        IsKept t.values.assignment.variables t.originals t.region.held t.values.assignment.lits
         t.values.levels.items t.values.reasons.items t.stages.items t.done
-        t.watches.watch.items t.watches.links };
+        t.watches.watch.items t.watches.links
+      × (t.values.assignment.variables ≤ vec_capacity t.stages) };
 }
 
 impl Trail {
@@ -71,20 +72,16 @@ impl Trail {
         requires few_words { words_of (map Some set.now.clauses) + extra_words < 2 ^ 32 }
         ensures variables { IfOk result (λ t. t.variables ≡ set.now.variables) }
         ensures originals { IfOk result (λ t. t.originals ≡ length set.now.clauses) }
-        ensures clauses {
-            IfOk result (λ t.
-                t.clauses ≡ map Some set.now.clauses ++ replicate extra_blocks None)
-        }
-        ensures words {
-            IfOk result (λ t. t.words ≡ words_of (map Some set.now.clauses) + extra_words)
-        }
+        ensures clauses { IfOk result (λ t.
+            t.clauses ≡ map Some set.now.clauses ++ replicate extra_blocks None) }
+        ensures words { IfOk result (λ t. t.words ≡ words_of (map Some set.now.clauses) + extra_words) }
         ensures empty { IfOk result (λ t. t.lits ≡ []) }
         ensures present { IfOk result (λ t. t.present ≡ 0) }
     {
         let blocks = set.len() + extra_blocks;
         let mut trail = Trail {
-            originals: set.len(),
-            region: Region::new(alloc, set.total() + extra_words, blocks)?,
+            originals: 0,
+            region: Region::new(alloc, literals_in(set) + extra_words, blocks)?,
             watches: Watches::new(alloc, set.variables(), blocks)?,
             values: Values::new(alloc, set.variables())?,
             done: 0,
@@ -93,6 +90,7 @@ impl Trail {
         for k in 1..set.len() + 1 {
             let _ = trail.learn(set.clause(k));
         }
+        trail.originals = set.len();
         Ok(trail)
     }
 
@@ -119,14 +117,10 @@ impl Trail {
     /// literal, or two literals without a value.
     pub fn propagate(&mut self) -> Option<u32>
         ensures grown { IsGrown self.old self.new }
-        ensures conflict {
-            IfSome result (λ k. (c : Lits)
-                × (clause_at self.old.clauses k ≡ Some c) × IsConflict self.new.lits c)
-        }
-        ensures settled {
-            IfNone result ((k : ℕ) (c : Lits)
-                → clause_at self.old.clauses k ≡ Some c → IsSettled self.new.lits c)
-        }
+        ensures conflict { IfSome result (λ k. (c : Lits)
+            × (clause_at self.old.clauses k ≡ Some c) × IsConflict self.new.lits c) }
+        ensures settled { IfNone result ((k : ℕ) (c : Lits)
+            → clause_at self.old.clauses k ≡ Some c → IsSettled self.new.lits c) }
         ensures present { self.new.present ≡ self.old.present }
         ensures same { HasSameClauses self.old self.new }
     {
@@ -160,12 +154,8 @@ impl Trail {
     pub fn value(&self, v: u32) -> Option<bool>
         requires low { 1 ≤ v }
         requires high { v ≤ self.now.variables }
-        ensures some {
-            IfSome result (λ b. Has self.now.lits (record { variable = v; positive = b }))
-        }
-        ensures none {
-            IfNone result (IsFree self.now.lits (record { variable = v; positive = true }))
-        }
+        ensures some { IfSome result (λ b. Has self.now.lits (record { variable = v; positive = b })) }
+        ensures none { IfNone result (IsFree self.now.lits (record { variable = v; positive = true })) }
         ensures known { IsTrail self.now }
     {
         self.values.assignment.value(v)
@@ -175,14 +165,10 @@ impl Trail {
     pub fn reason(&self, v: u32) -> Option<u32>
         requires low { 1 ≤ v }
         requires high { v ≤ self.now.variables }
-        ensures some {
-            IfSome result (λ k. (l : Literal) × Has self.now.lits l × (l.variable ≡ v)
-                × (k ≢ 0) × (reason_of self.now l ≡ k))
-        }
-        ensures none {
-            IfNone result ((l : Literal) → Has self.now.lits l → l.variable ≡ v
-                → reason_of self.now l ≡ 0)
-        }
+        ensures some { IfSome result (λ k. (l : Literal) × Has self.now.lits l × (l.variable ≡ v)
+            × (k ≢ 0) × (reason_of self.now l ≡ k)) }
+        ensures none { IfNone result ((l : Literal) → Has self.now.lits l → l.variable ≡ v
+            → reason_of self.now l ≡ 0) }
         ensures known { IsTrail self.now }
     {
         self.value(v)?;
@@ -218,18 +204,12 @@ impl Trail {
         requires within { WithinVariables self.old.variables lits.now }
         ensures fresh { IfOk result (λ k. clause_at self.old.clauses k ≡ None) }
         ensures high { IfOk result (λ k. self.old.originals < k) }
-        ensures clauses {
-            IfOk result (λ k. self.new.clauses ≡ set self.old.clauses (k - 1) (Some lits.now))
-        }
-        ensures fits {
-            IfOk result (λ _. words_of self.old.clauses + length lits.now ≤ self.old.words)
-        }
+        ensures clauses { IfOk result (λ k. self.new.clauses ≡ set self.old.clauses (k - 1) (Some lits.now)) }
+        ensures fits { IfOk result (λ _. words_of self.old.clauses + length lits.now ≤ self.old.words) }
         ensures free { IfOk result (λ _. blocks_of self.old.clauses < length self.old.clauses) }
-        ensures full {
-            IfErr result (λ _.
-                (self.old.words < words_of self.old.clauses + length lits.now)
-                ⊎ (length self.old.clauses ≤ blocks_of self.old.clauses))
-        }
+        ensures full { IfErr result (λ _.
+            (self.old.words < words_of self.old.clauses + length lits.now)
+            ⊎ (length self.old.clauses ≤ blocks_of self.old.clauses)) }
         ensures live_words { IfErr result (λ f. f.live_words ≡ words_of self.old.clauses) }
         ensures live_blocks { IfErr result (λ f. f.live_blocks ≡ blocks_of self.old.clauses) }
         ensures same { IfErr result (λ _. self.new ≡ self.old) }
@@ -251,4 +231,16 @@ impl Trail {
         self.watches.release(c - 1);
         self.region.free(Block::from_name(c - 1));
     }
+}
+
+// How many literals the clauses have together.
+fn literals_in(set: &ClauseSet) -> u32
+    requires { words_of (map Some set.now.clauses) < 2 ^ 32 }
+    ensures { result ≡ words_of (map Some set.now.clauses) }
+{
+    let mut total = 0;
+    for k in 1..set.len() + 1 {
+        total += set.clause(k).len() as u32;
+    }
+    total
 }

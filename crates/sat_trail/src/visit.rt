@@ -42,10 +42,8 @@ pub fn open_literal(lits: &[Lit], values: &Assignment, o: Lit) -> Option<Lit>
     ensures member { IfSome result (λ m. Has lits.now m) }
     ensures apart { IfSome result (λ m. m ≢ o) }
     ensures open { IfSome result (λ m. Has values.now.lits (negation m) → ⊥) }
-    ensures none {
-        IfNone result
-            ((m : Literal) → Has lits.now m → m ≢ o → Has values.now.lits (negation m))
-    }
+    ensures none { IfNone result
+        ((m : Literal) → Has lits.now m → m ≢ o → Has values.now.lits (negation m)) }
 {
     for &m in lits {
         if m == o || values.holds(m.negated()) {
@@ -57,24 +55,15 @@ pub fn open_literal(lits: &[Lit], values: &Assignment, o: Lit) -> Option<Lit>
 }
 
 /// Visits the next watch of `x`, which is false, if one is left.
-pub fn visit(
-    region: &Region,
-    watches: &mut Watches,
-    values: &Assignment,
-    x: Lit,
-) -> Option<Step>
-    requires visiting {
-        IsVisiting region.now.held values.now.variables
-            watches.old.watch.items watches.old.links x
-    }
+pub fn visit(region: &Region, watches: &mut Watches, values: &Assignment, x: Lit) -> Option<Step>
+    requires visiting { IsVisiting region.now.held values.now.variables
+        watches.old.watch.items watches.old.links x }
     requires is_false { Has values.now.lits (negation x) }
     ensures end { IfNone result (list_at watches.old.links.lists 0 ≡ []) }
     ensures same { IfNone result (watches.new ≡ watches.old) }
-    ensures step {
-        IfSome result (λ step. IsVisit region.now.held values.now.lits x
-            watches.old.watch.items watches.old.links.lists
-            watches.new.watch.items watches.new.links.lists step)
-    }
+    ensures step { IfSome result (λ step. IsVisit region.now.held values.now.lits x
+        watches.old.watch.items watches.old.links.lists
+        watches.new.watch.items watches.new.links.lists step) }
     ensures sizes { HasSizes region.now.held values.now.variables watches.new.links }
 {
     let w = watches.links.pop(0)?;

@@ -9,3 +9,4 @@ pub mod LookLemmas
 pub mod TurnLemmas
 pub mod VisitCases
 pub mod BoundLemmas
+pub mod TrailLemmas

@@ -3,4 +3,5 @@ pub mod Stages
 pub mod Visits
 pub mod Looks
 pub mod Loosening
+pub mod Releases
 pub mod Kept

@@ -6,6 +6,9 @@ use Rattle.std.specs.List.{AllZip, range_with_len}
 use Rattle.clause_defs.specs.Clauses.{Lits, Has, SameSet}
 use Rattle.clause_defs.specs.Traces.{Entry, IsTrace, IsCompactAt, literals_in, stated_at, lits_at, antecedents_at, index_at}
 use Rattle.clause_defs.specs.TraceClauses.{LitsOf, computed_before}
+use Rattle.std.proofs.lemmas.List.Sums.{sum_by-append, sum_by-cons}
+use Rattle.clause_defs.specs.Literals.{Literal}
+use Rattle.flat_lists.specs.Flat.{total}
 use Rattle.clause_laws.proofs.TraceLits.{map_same}
 use Rattle.chain_check.specs.Aside.{ChainGives}
 use Rattle.chain_check.specs.Known.{stated_else, literals_at, AreLiteralsOf, AreOver, IsKnownBefore, signs_before}
@@ -290,3 +293,8 @@ range_zip R a zero (y ∷ ys) h p = absurd h
 range_zip R a (suc n) (y ∷ ys) h zero = let own : R a y = h.0 in subst (λ q. R q y) (let e : a ≡ a + 0 = omega arith in e) own
 range_zip R a (suc n) (y ∷ ys) h (suc p) =
     subst (λ q. IfSome (slice_get ys p) (R q)) (let e : a + 1 + p ≡ a + suc p = omega arith in e) (range_zip R (a + 1) n ys h.1 p)
+
+-- one list more has its items more
+pub total_more : (lists : List Lits) (ls : Lits) → total (lists ++ ls ∷ []) ≡ total lists + length ls
+total_more lists ls =
+    sum_by-append length lists (ls ∷ []) ∙ ap (λ n. total lists + n) (sum_by-cons length ls [] ∙ (let none : total {T = Literal} [] ≡ 0 = refl in omega arith))

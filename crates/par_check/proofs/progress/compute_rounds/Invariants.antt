@@ -5,7 +5,7 @@ use Rattle.par_check.proofs.progress.compute_rounds.Given as goal
 
 -- the clauses of the rounds so far are done
 abbrev pub invariant-loop-r : goal.invariant-loop-r
-invariant-loop-r l = record {
+invariant-loop-r g l = record {
   trace : l.progress.t.now ≡ l.t;
   room : IsRoomFor l.t l.room;
   limit : l.room.limit ≡ l.fn.room.limit;

@@ -6,7 +6,7 @@ use Rattle.par_check.proofs.progress.Progress.compute_apart.Given as goal
 
 -- the clauses of the parts so far are done, and what was computed stays so
 abbrev pub invariant-loop-p : goal.invariant-loop-p
-invariant-loop-p l = record {
+invariant-loop-p g l = record {
   trace : l.self.t ≡ l.fn.self.t;
   room : IsRoomFor l.fn.self.t.now l.room;
   limit : l.room.limit ≡ l.fn.room.limit;

@@ -1,0 +1,4 @@
+pub mod Names
+pub mod Signals
+pub mod Functions
+pub mod Designs

@@ -4,8 +4,8 @@ use Rattle.std.specs.Int.{bit_at}
 use Rattle.std.proofs.Math.ListN.{get_or-map}
 use Rattle.std.proofs.lemmas.Bool.{cases_lt, cases_eq, lt-ltb, le-ltb}
 use Rattle.std.proofs.lemmas.List.{length-map, get_or_default, get_or_past, get_or-set_same, get_or-set_other}
-use Rattle.fabric_defs.specs.Geometries.{GeometryValue, cell_count, cell_number}
-use Rattle.fabric_defs.specs.Configurations.{ConfigValue, first_word, first_words, pin_words, table, track_word, track_words, output_word}
+use Rattle.fabric_defs.specs.Geometries.{GeometryValue, cell_number}
+use Rattle.fabric_defs.specs.Configurations.{ConfigValue, first_word, first_words, pin_words, table, track_word, track_words}
 use Rattle.fabric_defs.specs.Wirings.{Wiring, Wired, channel, pad_bit, switched_bit, table_bit}
 use Rattle.fabric.proofs.PinLemmas.{listed_at, pins_wired}
 use Rattle.fabric.proofs.ColumnLemmas.{HasChannel-first, channel_next}

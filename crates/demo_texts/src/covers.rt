@@ -12,30 +12,32 @@ use blif_read::{Cover, Names};
 use pch_base::{Name, NoMemory, print_number};
 use std::alloc::Global;
 
-/// A signal of a letter and a number.
+/// A signal, whose name is a letter and a number.
 #[derive(Clone, Copy, Debug)]
 pub(crate) struct Signal {
     /// The letter.
-    pub(crate) letter: u8,
+    letter: u8,
     /// The number behind it.
-    pub(crate) number: u32,
+    number: u32,
 }
 
-/// The signal of a letter and a number.
-pub(crate) fn signal(letter: u8, number: u32) -> Signal
-    ensures { result ≡ record { letter = letter; number = number } }
-{
-    Signal { letter, number }
-}
+impl Signal {
+    /// The signal of a letter and a number.
+    pub(crate) fn new(letter: u8, number: u32) -> Signal
+        ensures { result ≡ record { letter = letter; number = number } }
+    {
+        Signal { letter, number }
+    }
 
-/// The name of a signal.
-pub(crate) fn name(alloc: Global, signal: Signal) -> Result<Name, NoMemory>
-    ensures { IfOk result (λ name. name ≡ signal_name signal) }
-{
-    let mut bytes = Vec::new(alloc);
-    bytes.push(signal.letter)?;
-    print_number(u64::from(signal.number), &mut bytes)?;
-    Name::from_bytes(alloc, &bytes)
+    /// The name of the signal.
+    pub(crate) fn name(self, alloc: Global) -> Result<Name, NoMemory>
+        ensures { IfOk result (λ name. name ≡ signal_name self) }
+    {
+        let mut bytes = Vec::new(alloc);
+        bytes.push(self.letter)?;
+        print_number(u64::from(self.number), &mut bytes)?;
+        Name::from_bytes(alloc, &bytes)
+    }
 }
 
 /// Appends the names of a letter and the numbers below a count.
@@ -48,7 +50,7 @@ pub(crate) fn push_names(
     ensures { OnOk result (names.new.items ≡ names.old.items ++ names_of letter count) }
 {
     for number in 0..count {
-        names.push(name(alloc, signal(letter, number))?)?;
+        names.push(Signal::new(letter, number).name(alloc)?)?;
     }
     Ok(())
 }
@@ -66,7 +68,7 @@ pub(crate) fn push_cover(
 {
     let mut names = Vec::new(alloc);
     for signal in ins {
-        names.push(name(alloc, *signal)?)?;
+        names.push(signal.name(alloc)?)?;
     }
     let rows = function.rows(alloc)?;
     covers.push(Cover {

@@ -7,7 +7,7 @@ ghost use Rattle.demo_texts.specs.Designs.{ripple_bit, carry_out, guess, choice,
 ghost use Rattle.demo_texts.specs.declared.TheConstants.{MAX_BITS};
 ghost use Rattle.demo_texts.specs.declared.letter.TheConstants.{SUM, SUM_WITHOUT, SUM_WITH};
 
-use crate::covers::{name, push_cover, push_names, signal};
+use crate::covers::{Signal, push_cover, push_names};
 use crate::function::Function;
 use crate::letter::{
     CARRY, CARRY_WITH, CARRY_WITHOUT, FIRST, SECOND, SUM, SUM_WITH, SUM_WITHOUT,
@@ -24,14 +24,14 @@ fn push_ripple_bit(alloc: Global, i: u32, covers: &mut Vec<Cover>) -> Result<(),
     ensures { OnOk result
         (map cover_of covers.new.items ≡ map cover_of covers.old.items ++ ripple_bit i) }
 {
-    let (a, b) = (signal(FIRST, i), signal(SECOND, i));
-    let sum = name(alloc, signal(SUM, i))?;
-    let carry = name(alloc, signal(CARRY, i))?;
+    let (a, b) = (Signal::new(FIRST, i), Signal::new(SECOND, i));
+    let sum = Signal::new(SUM, i).name(alloc)?;
+    let carry = Signal::new(CARRY, i).name(alloc)?;
     if i == 0 {
         push_cover(alloc, Function::Xor2, &[a, b], sum, covers)?;
         push_cover(alloc, Function::And2, &[a, b], carry, covers)
     } else {
-        let before = signal(CARRY, i - 1);
+        let before = Signal::new(CARRY, i - 1);
         push_cover(alloc, Function::Xor3, &[a, b, before], sum, covers)?;
         push_cover(alloc, Function::Majority, &[a, b, before], carry, covers)
     }
@@ -55,7 +55,7 @@ fn push_carry_out(alloc: Global, bits: u32, covers: &mut Vec<Cover>) -> Result<(
         (map cover_of covers.new.items ≡ map cover_of covers.old.items ++ carry_out bits ∷ []) }
 {
     let out = Name::from_bytes(alloc, b"cout")?;
-    push_cover(alloc, Function::Same, &[signal(CARRY, bits - 1)], out, covers)
+    push_cover(alloc, Function::Same, &[Signal::new(CARRY, bits - 1)], out, covers)
 }
 
 /// Appends bit `lo + d` of a block from bit `lo` on, for both carries that may come into the block.
@@ -65,19 +65,19 @@ fn push_guess(alloc: Global, lo: u32, d: u32, covers: &mut Vec<Cover>) -> Result
         (map cover_of covers.new.items ≡ map cover_of covers.old.items ++ guess lo d) }
 {
     let i = lo + d;
-    let (a, b) = (signal(FIRST, i), signal(SECOND, i));
-    let sum_without = name(alloc, signal(SUM_WITHOUT, i))?;
-    let carry_without = name(alloc, signal(CARRY_WITHOUT, i))?;
-    let sum_with = name(alloc, signal(SUM_WITH, i))?;
-    let carry_with = name(alloc, signal(CARRY_WITH, i))?;
+    let (a, b) = (Signal::new(FIRST, i), Signal::new(SECOND, i));
+    let sum_without = Signal::new(SUM_WITHOUT, i).name(alloc)?;
+    let carry_without = Signal::new(CARRY_WITHOUT, i).name(alloc)?;
+    let sum_with = Signal::new(SUM_WITH, i).name(alloc)?;
+    let carry_with = Signal::new(CARRY_WITH, i).name(alloc)?;
     if d == 0 {
         push_cover(alloc, Function::Xor2, &[a, b], sum_without, covers)?;
         push_cover(alloc, Function::And2, &[a, b], carry_without, covers)?;
         push_cover(alloc, Function::Xnor2, &[a, b], sum_with, covers)?;
         push_cover(alloc, Function::Or2, &[a, b], carry_with, covers)
     } else {
-        let without = signal(CARRY_WITHOUT, i - 1);
-        let with = signal(CARRY_WITH, i - 1);
+        let without = Signal::new(CARRY_WITHOUT, i - 1);
+        let with = Signal::new(CARRY_WITH, i - 1);
         push_cover(alloc, Function::Xor3, &[a, b, without], sum_without, covers)?;
         push_cover(alloc, Function::Majority, &[a, b, without], carry_without, covers)?;
         push_cover(alloc, Function::Xor3, &[a, b, with], sum_with, covers)?;
@@ -98,8 +98,8 @@ fn push_choice(
         ++ choice lo (slice_index letters 0) (slice_index letters 1) i (slice_index letters 2) ∷ []) }
 {
     let [without, with, out] = letters;
-    let ins = [signal(CARRY, lo - 1), signal(without, i), signal(with, i)];
-    push_cover(alloc, Function::Choice, &ins, name(alloc, signal(out, i))?, covers)
+    let ins = [Signal::new(CARRY, lo - 1), Signal::new(without, i), Signal::new(with, i)];
+    push_cover(alloc, Function::Choice, &ins, Signal::new(out, i).name(alloc)?, covers)
 }
 
 /// Appends the guesses of a block of `width` bits from bit `lo` on.
@@ -179,7 +179,7 @@ fn adder(alloc: Global, model: &[u8], bits: u32, covers: Vec<Cover>) -> Result<B
 }
 
 /// The design that adds two numbers of so many bits and hands the carry on from bit to bit.
-pub fn ripple(alloc: Global, bits: u32) -> Result<Blif, NoMemory>
+pub(crate) fn ripple(alloc: Global, bits: u32) -> Result<Blif, NoMemory>
     requires some { 1 ≤ bits }
     requires few { bits ≤ MAX_BITS }
     ensures { IfOk result (λ d. blif_of d ≡ ripple_design bits) }
@@ -192,7 +192,7 @@ pub fn ripple(alloc: Global, bits: u32) -> Result<Blif, NoMemory>
 
 /// The design that adds two numbers of so many bits in blocks of four, and computes each block but
 /// the first one for both carries that may come into it.
-pub fn select(alloc: Global, bits: u32) -> Result<Blif, NoMemory>
+pub(crate) fn select(alloc: Global, bits: u32) -> Result<Blif, NoMemory>
     requires some { 1 ≤ bits }
     requires few { bits ≤ MAX_BITS }
     ensures { IfOk result (λ d. blif_of d ≡ select_design bits) }

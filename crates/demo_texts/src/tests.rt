@@ -1,5 +1,5 @@
-use crate::{ripple, select};
-use blif_read::print_blif;
+use crate::{MAX_BITS, ripple_text, select_text};
+use netlist::{read_specification, same_interface};
 use std::test::Fail;
 
 /// Both designs of one bit, which differ in their names alone.
@@ -17,13 +17,22 @@ const ONE_BIT: &str = "\
 ";
 
 #[test]
-fn designs_of_one_bit_are_printed(rt: HostRuntime) -> Result<(), Fail> {
+fn texts_of_one_bit_are_these(rt: HostRuntime) -> Result<(), Fail> {
+    let text = ripple_text(rt.alloc(), 1)?;
+    assert!(rt; text.starts_with(b".model ripple\n") && text.ends_with(ONE_BIT.as_bytes()));
+    let text = select_text(rt.alloc(), 1)?;
+    assert!(rt; text.starts_with(b".model select\n") && text.ends_with(ONE_BIT.as_bytes()));
+    Ok(())
+}
+
+#[test]
+fn texts_of_all_sizes_are_networks_with_one_interface(rt: HostRuntime) -> Result<(), Fail> {
     let alloc = rt.alloc();
-    let text = print_blif(alloc, &ripple(alloc, 1)?)?;
-    assert!(rt; text.starts_with(b".model ripple\n"));
-    assert!(rt; text.ends_with(ONE_BIT.as_bytes()));
-    let text = print_blif(alloc, &select(alloc, 1)?)?;
-    assert!(rt; text.starts_with(b".model select\n"));
-    assert!(rt; text.ends_with(ONE_BIT.as_bytes()));
+    for bits in 1..=MAX_BITS {
+        let ripple = read_specification(alloc, &ripple_text(alloc, bits)?)?;
+        let select = read_specification(alloc, &select_text(alloc, bits)?)?;
+        assert!(rt; ripple.inputs() == 2 * bits && ripple.outputs() == bits + 1);
+        assert!(rt; same_interface(alloc, &ripple, &select).is_ok());
+    }
     Ok(())
 }

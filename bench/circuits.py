@@ -24,13 +24,13 @@ def wide_net(rng, nodes):
     return "\n".join(lines + [".end", ""])
 
 
-def config(rng, c, r, t, i, o, fill):
-    """A random configuration; `fill` percent of the pins listen to a track."""
+def config(rng, c, r, t, i, o, fill, pins=4):
+    """A random configuration of cells with so many pins; `fill` percent of the pins listen to a track."""
     words = [rng.randrange(i + 1) for _ in range(t)]
     for _ in range(c):
         for _ in range(r):
-            words += [rng.randrange(1, t + 1) if rng.randrange(100) < fill else 0 for _ in range(4)]
-            words.append(rng.randrange(65536))
+            words += [rng.randrange(1, t + 1) if rng.randrange(100) < fill else 0 for _ in range(pins)]
+            words += [rng.randrange(65536) for _ in range(2**pins // 16)]
         for _ in range(t):
             kind = rng.randrange(100)
             words.append(1 if kind < 50 else rng.randrange(2, r + 2) if kind < 95 else 0)

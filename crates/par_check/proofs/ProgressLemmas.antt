@@ -1,5 +1,5 @@
 -- From clauses that are computed each after its antecedents to what is known of the whole trace.
-use Rattle.std.proofs.Common.{◌≡◌, ◌≢◌, ℕ, zero, suc, ◌+◌, ◌*◌, ◌<◌, ◌≤◌, inl, inr, Bool, true, false, List, [], ◌∷◌, ◌++◌, length, get_or, set, take, slice_get, Option, Some, None, IfSome, refl, sym, ◌∙◌, ap, subst, arith, add-one, get_or-set_same, get_or-set_other}
+use Rattle.std.proofs.Common.{◌≡◌, ◌≢◌, ℕ, zero, suc, ◌+◌, ◌*◌, ◌<◌, ◌≤◌, inl, inr, Bool, true, false, List, [], ◌∷◌, ◌++◌, length, get_or, set, take, slice_get, Option, Some, None, Result, Ok, Err, IfSome, refl, sym, ◌∙◌, ap, subst, arith, add-one, get_or-set_same, get_or-set_other}
 use Rattle.std.proofs.lemmas.Bool.{true≢false, cases_order, cases_eq}
 use Rattle.std.proofs.lemmas.List.{length-set, get_or_past, take_more}
 use Rattle.std.specs.List.{AllZip, range_with_len}
@@ -8,7 +8,8 @@ use Rattle.clause_defs.specs.Traces.{Entry, IsTrace, IsCompactAt, literals_in, s
 use Rattle.clause_defs.specs.TraceClauses.{LitsOf, computed_before}
 use Rattle.std.proofs.lemmas.List.Sums.{sum_by-append, sum_by-cons}
 use Rattle.clause_defs.specs.Literals.{Literal}
-use Rattle.flat_lists.specs.Flat.{total}
+use Rattle.flat_lists.specs.Flat.{Flat, total}
+use Rattle.pch_base.specs.declared.memory.NoMemory.{NoMemory}
 use Rattle.clause_laws.proofs.TraceLits.{map_same}
 use Rattle.chain_check.specs.Aside.{ChainGives}
 use Rattle.chain_check.specs.Known.{stated_else, literals_at, AreLiteralsOf, AreOver, IsKnownBefore, signs_before}
@@ -17,7 +18,7 @@ use Rattle.chain_check.specs.declared.room.Room.{Room}
 use Rattle.chain_check.proofs.ClauseLists.{Has-take_more}
 use Rattle.chain_check.proofs.KnownLemmas.{lits_computed, computed_more, computed_stated, sign_right, known_stated, signs_sign, signs_stated}
 use Rattle.chain_check.proofs.RoomLemmas.{aside_over, aside_length}
-use Rattle.par_check.specs.Progress.{IsReady, IsComputedBy, sizes_before, AreDone}
+use Rattle.par_check.specs.Progress.{IsReady, IsComputedBy, sizes_before, AreDone, IsPart}
 
 -- a place that is done is another than one that isn't
 other_place : (done : List Bool) (k p : ℕ) → get_or done k false ≡ false → get_or done p false ≡ true → p ≡ k → ⊥
@@ -268,6 +269,21 @@ zip_at R [] (b ∷ ys) i d y h e = absurd h
 zip_at R (a ∷ xs) [] i d y h e = absurd h
 zip_at R (a ∷ xs) (b ∷ ys) zero d y h e = subst (R a) (let same : Some b ≡ Some y = e in cc) h.0
 zip_at R (a ∷ xs) (b ∷ ys) (suc i) d y h e = zip_at R xs ys i d y h.1 e
+
+-- what holds of two lists place by place is passed on
+zip_on : {X Y : Type 0} (R S : X → Y → Type 0) → ((x : X) (y : Y) → R x y → S x y) → (xs : List X) (ys : List Y) → AllZip R xs ys → AllZip S xs ys
+zip_on R S on [] [] h = tt
+zip_on R S on [] (b ∷ ys) h = absurd h
+zip_on R S on (a ∷ xs) [] h = absurd h
+zip_on R S on (a ∷ xs) (b ∷ ys) h = (on a b h.0, zip_on R S on xs ys h.1)
+
+-- what a worker has found stays right as the clauses of others are kept
+pub part_on : (t : List Entry) (computed later : List Lits) (done more : List Bool)
+    → ((j : ℕ) (ls : Lits) → IsComputedBy t computed done j ls → IsComputedBy t later more j ls)
+    → (ks : List ℕ) (found : Result (Option (Flat Literal)) NoMemory) → IsPart t computed done ks found → IsPart t later more ks found
+part_on t computed later done more on ks (Err e) h = tt
+part_on t computed later done more on ks (Ok None) h = tt
+part_on t computed later done more on ks (Ok (Some lists)) h = zip_on (IsComputedBy t computed done) (IsComputedBy t later more) on ks lists.lists h
 
 -- ---- flags
 

@@ -9,7 +9,7 @@ ghost use Rattle.par_check.specs.Pieces.{piece_begin};
 ghost use Rattle.par_check.specs.Progress.{IsReady, IsComputedBy, AreDone, places_of, IsPart};
 
 use crate::pieces::piece_begin;
-use crate::rounds::{Rounds, fewest};
+use crate::rounds::Rounds;
 use chain_check::{Marks, Room, Stop};
 use flat_lists::FlatLists;
 use pch_base::{Lit, NoMemory};
@@ -37,9 +37,8 @@ pub(crate) fn compute_signs(
     ensures within { IfOk result (λ s. s.place ≤ length t.now) }
     ensures trace { IsTrace t.now }
 {
-    let few = fewest(t);
-    if let Some(rounds) = Rounds::find(alloc, t, few)?
-        && compute_rounds(rt, alloc, t, room, &rounds, pieces, few)?
+    if let Some(rounds) = Rounds::find(alloc, t)?
+        && compute_in_rounds(rt, alloc, t, room, &rounds, pieces)?
     {
         return Ok(Stop {
             place: t.len(),
@@ -50,17 +49,15 @@ pub(crate) fn compute_signs(
 }
 
 /// Computes the clauses with the sign round by round, and says whether all were found right.
-fn compute_rounds(
+fn compute_in_rounds(
     rt: &(impl Threads + Sync),
     alloc: Global,
     t: &Trace,
     room: &mut Room,
     rounds: &Rounds,
     pieces: u32,
-    few: u32,
 ) -> Result<bool, NoMemory>
     requires pieces { 1 ≤ pieces }
-    requires few { 1 ≤ few }
     requires room { IsRoomFor t.now room.old }
     ensures limit { IfOk result (λ all. room.new.limit ≡ room.old.limit) }
     ensures room { IfOk result (λ all. IsRoomFor t.now room.new) }
@@ -71,19 +68,8 @@ fn compute_rounds(
     room.clear(t);
     let mut progress = Progress::new(alloc, t)?;
     let mut desk = Desk::new(alloc, room)?;
-    for r in 1..rounds.len() {
-        let places = rounds.round(r);
-        let parts = rounds.workers(r, pieces, few);
-        let right = if parts > 1 {
-            progress.compute_apart(rt, alloc, room, places, parts)?
-        } else {
-            progress.compute_here(alloc, room, places, &mut desk)?
-        };
-        if !right {
-            return Ok(false);
-        }
-    }
-    Ok(progress.is_complete())
+    let right = progress.compute_rounds(rt, alloc, room, rounds, pieces, &mut desk)?;
+    Ok(right && progress.is_complete())
 }
 
 /// What a worker computes clauses on.
@@ -242,6 +228,72 @@ impl<'a> Progress<'a> {
         true
     }
 
+    /// Computes the clauses round by round, and says whether all that the rounds have were found right.
+    fn compute_rounds(
+        &mut self,
+        rt: &(impl Threads + Sync),
+        alloc: Global,
+        room: &mut Room,
+        rounds: &Rounds,
+        pieces: u32,
+        desk: &mut Desk,
+    ) -> Result<bool, NoMemory>
+        requires pieces { 1 ≤ pieces }
+        requires room { IsRoomFor self.old.t.now room.old }
+        requires done { AreDone self.old.t.now room.old.marks.variables room.old.limit
+            room.old.computed.clauses room.old.computed.total self.old.done.items }
+        requires variables { desk.old.marks.variables ≡ room.old.marks.variables }
+        requires clause { 2 * desk.old.marks.variables ≤ vec_capacity desk.old.clause }
+        ensures trace { self.new.t ≡ self.old.t }
+        ensures room { IsRoomFor self.old.t.now room.new }
+        ensures limit { room.new.limit ≡ room.old.limit }
+        ensures variables { room.new.marks.variables ≡ room.old.marks.variables }
+        ensures done { IfOk result (λ right. OnTrue right (AreDone self.old.t.now
+            room.old.marks.variables room.old.limit room.new.computed.clauses
+            room.new.computed.total self.new.done.items)) }
+    {
+        for r in 1..rounds.len() {
+            let parts = rounds.workers(r, pieces);
+            if !self.compute_round(rt, alloc, room, rounds.round(r), parts, desk)? {
+                return Ok(false);
+            }
+        }
+        Ok(true)
+    }
+
+    /// Computes the clauses at these places in so many parts, and says whether all were found right.
+    fn compute_round(
+        &mut self,
+        rt: &(impl Threads + Sync),
+        alloc: Global,
+        room: &mut Room,
+        places: &[u32],
+        parts: u32,
+        desk: &mut Desk,
+    ) -> Result<bool, NoMemory>
+        requires few { length places.now + 1 < 2 ^ 32 }
+        requires room { IsRoomFor self.old.t.now room.old }
+        requires done { AreDone self.old.t.now room.old.marks.variables room.old.limit
+            room.old.computed.clauses room.old.computed.total self.old.done.items }
+        requires variables { desk.old.marks.variables ≡ room.old.marks.variables }
+        requires clause { 2 * desk.old.marks.variables ≤ vec_capacity desk.old.clause }
+        ensures trace { self.new.t ≡ self.old.t }
+        ensures room { IsRoomFor self.old.t.now room.new }
+        ensures limit { room.new.limit ≡ room.old.limit }
+        ensures variables { room.new.marks.variables ≡ room.old.marks.variables }
+        ensures done { IfOk result (λ right. OnTrue right (AreDone self.old.t.now
+            room.old.marks.variables room.old.limit room.new.computed.clauses
+            room.new.computed.total self.new.done.items)) }
+        ensures desk_variables { desk.new.marks.variables ≡ desk.old.marks.variables }
+        ensures desk_clause { vec_capacity desk.new.clause ≡ vec_capacity desk.old.clause }
+    {
+        if parts > 1 {
+            self.compute_apart(rt, alloc, room, places, parts)
+        } else {
+            self.compute_here(alloc, room, places, desk)
+        }
+    }
+
     /// Computes the clauses at these places on the caller's thread, and says whether all were found
     /// right.
     fn compute_here(
@@ -298,18 +350,70 @@ impl<'a> Progress<'a> {
             room.new.computed.total self.new.done.items)) }
     {
         let found = self.compute_parts(rt, alloc, room, places, parts)?;
+        self.keep_parts(room, places, parts, &found)
+    }
+
+    /// Keeps what the workers have found of each part of these places, and says whether all were found
+    /// right.
+    fn keep_parts(
+        &mut self,
+        room: &mut Room,
+        places: &[u32],
+        parts: u32,
+        found: &[Result<Option<FlatLists<Lit>>, NoMemory>],
+    ) -> Result<bool, NoMemory>
+        requires few { length places.now + 1 < 2 ^ 32 }
+        requires all { length found.now ≡ parts }
+        requires room { IsRoomFor self.old.t.now room.old }
+        requires done { AreDone self.old.t.now room.old.marks.variables room.old.limit
+            room.old.computed.clauses room.old.computed.total self.old.done.items }
+        requires found { (p : ℕ) → IfSome (slice_get found.now p)
+            (λ part. IsPart self.old.t.now room.old.computed.clauses self.old.done.items
+            (places_of places.now parts p) part) }
+        ensures trace { self.new.t ≡ self.old.t }
+        ensures room { IsRoomFor self.old.t.now room.new }
+        ensures limit { room.new.limit ≡ room.old.limit }
+        ensures variables { room.new.marks.variables ≡ room.old.marks.variables }
+        ensures done { IfOk result (λ right. OnTrue right (AreDone self.old.t.now
+            room.old.marks.variables room.old.limit room.new.computed.clauses
+            room.new.computed.total self.new.done.items)) }
+    {
         for p in 0..parts {
-            match &found[p as usize] {
-                Ok(Some(lists)) => {
-                    if !self.keep_list(room, part(places, parts, p), lists) {
-                        return Ok(false);
-                    }
-                }
-                Ok(None) => return Ok(false),
-                Err(NoMemory) => return Err(NoMemory),
+            if !self.keep_part(room, part(places, parts, p), &found[p as usize])? {
+                return Ok(false);
             }
         }
         Ok(true)
+    }
+
+    /// Keeps what a worker has found of these places, and says whether all were found right.
+    fn keep_part(
+        &mut self,
+        room: &mut Room,
+        places: &[u32],
+        found: &Result<Option<FlatLists<Lit>>, NoMemory>,
+    ) -> Result<bool, NoMemory>
+        requires room { IsRoomFor self.old.t.now room.old }
+        requires done { AreDone self.old.t.now room.old.marks.variables room.old.limit
+            room.old.computed.clauses room.old.computed.total self.old.done.items }
+        requires found { IsPart self.old.t.now room.old.computed.clauses self.old.done.items
+            places.now found.now }
+        ensures trace { self.new.t ≡ self.old.t }
+        ensures room { IsRoomFor self.old.t.now room.new }
+        ensures limit { room.new.limit ≡ room.old.limit }
+        ensures variables { room.new.marks.variables ≡ room.old.marks.variables }
+        ensures done { IfOk result (λ right. OnTrue right (AreDone self.old.t.now
+            room.old.marks.variables room.old.limit room.new.computed.clauses
+            room.new.computed.total self.new.done.items)) }
+        ensures later { IfOk result (λ right. OnTrue right ((j : ℕ) (ls : Lits)
+            → IsComputedBy self.old.t.now room.old.computed.clauses self.old.done.items j ls
+            → IsComputedBy self.old.t.now room.new.computed.clauses self.new.done.items j ls)) }
+    {
+        match found {
+            Ok(Some(lists)) => Ok(self.keep_list(room, places, lists)),
+            Ok(None) => Ok(false),
+            Err(NoMemory) => Err(NoMemory),
+        }
     }
 
     /// The clauses of each part of these places, computed by a worker of its own.

@@ -2,11 +2,11 @@ use Rattle.std.proofs.Common.{◌≡◌, ℕ}
 use Rattle.clause_defs.specs.Clauses.{Lits}
 use Rattle.chain_check.specs.Rooms.{IsRoomFor}
 use Rattle.par_check.specs.Progress.{IsComputedBy, AreDone}
-use Rattle.par_check.proofs.progress.Progress.compute_apart.Given as goal
+use Rattle.par_check.proofs.progress.Progress.keep_parts.Given as goal
 
 -- the clauses of the parts so far are done, and what was computed stays so
 abbrev pub invariant-loop-p : goal.invariant-loop-p
-invariant-loop-p g l = record {
+invariant-loop-p l = record {
   trace : l.self.t ≡ l.fn.self.t;
   room : IsRoomFor l.fn.self.t.now l.room;
   limit : l.room.limit ≡ l.fn.room.limit;

@@ -2,17 +2,17 @@ use Rattle.std.proofs.Common.{ℕ, List, Bor, sym, ◌∙◌, subst}
 use Rattle.clause_defs.specs.Traces.{Entry}
 use Rattle.chain_check.specs.Rooms.{IsRoomFor}
 use Rattle.par_check.specs.Progress.{IsComputedBy, AreDone}
-use Rattle.par_check.proofs.progress.Progress.compute_apart.Goals as goal
+use Rattle.par_check.proofs.progress.Progress.keep_parts.Goals as goal
 
 -- one part more is kept
 pub loop-p-preserved : goal.loop-p-preserved
-loop-p-preserved g c =
+loop-p-preserved c =
     let inv = c.loop-p.invariant in
-    let own = c.if-not-keep_list.ensures {u = tt} in
+    let own = c.if-not-keep_part.ensures {u = tt} in
     let was = c.args.room.now in
     let now = c.loop-p.room in
-    let next = c.keep_list.new.room in
-    let done = c.keep_list.new.self.done.items in
+    let next = c.keep_part.new.room in
+    let done = c.keep_part.new.self.done.items in
     record {
       trace = own.trace ∙ inv.trace;
       room = subst (λ (b : Bor (List Entry)). IsRoomFor b.now next) inv.trace own.room;

@@ -171,10 +171,7 @@ impl Room {
     pub fn more_room(&self, alloc: Global) -> Result<Vec<Lit>, NoMemory>
         ensures { IfOk result (λ c. 2 * self.now.marks.variables ≤ vec_capacity c) }
     {
-        Ok(Vec::with_capacity(
-            alloc,
-            2 * self.marks.variables() as usize,
-        )?)
+        Ok(Vec::with_capacity(alloc, 2 * self.marks.variables() as usize)?)
     }
 
     /// How many literals more the clauses with the sign may have.

@@ -1,7 +1,7 @@
 -- From clauses that are computed each after its antecedents to what is known of the whole trace.
-use Rattle.std.proofs.Common.{◌≡◌, ◌≢◌, ℕ, zero, suc, ◌+◌, ◌*◌, ◌<◌, ◌≤◌, inl, inr, Bool, true, false, List, [], ◌∷◌, ◌++◌, length, get_or, set, take, slice_get, Option, Some, None, Result, Ok, Err, IfSome, refl, sym, ◌∙◌, ap, subst, arith, add-one, get_or-set_same, get_or-set_other}
+use Rattle.std.proofs.Common.{◌≡◌, ℕ, zero, suc, ◌+◌, ◌*◌, ◌<◌, ◌≤◌, inl, inr, Bool, true, false, List, [], ◌∷◌, ◌++◌, length, get_or, set, take, slice_get, Option, Some, None, Result, Ok, Err, IfSome, refl, sym, ◌∙◌, ap, subst, arith, get_or-set_same, get_or-set_other}
 use Rattle.std.proofs.lemmas.Bool.{true≢false, cases_order, cases_eq}
-use Rattle.std.proofs.lemmas.List.{length-set, get_or_past, take_more}
+use Rattle.std.proofs.lemmas.List.{length-set, get_or_past}
 use Rattle.std.specs.List.{AllZip, range_with_len}
 use Rattle.clause_defs.specs.Clauses.{Lits, Has, SameSet}
 use Rattle.clause_defs.specs.Traces.{Entry, IsTrace, IsCompactAt, literals_in, stated_at, lits_at, antecedents_at, index_at}
@@ -18,7 +18,7 @@ use Rattle.chain_check.specs.declared.room.Room.{Room}
 use Rattle.chain_check.proofs.ClauseLists.{Has-take_more}
 use Rattle.chain_check.proofs.KnownLemmas.{lits_computed, computed_more, computed_stated, sign_right, known_stated, signs_sign, signs_stated}
 use Rattle.chain_check.proofs.RoomLemmas.{aside_over, aside_length}
-use Rattle.par_check.specs.Progress.{IsReady, IsComputedBy, sizes_before, AreDone, IsPart}
+use Rattle.par_check.specs.Progress.{IsComputedBy, sizes_before, AreDone, IsPart}
 
 -- a place that is done is another than one that isn't
 other_place : (done : List Bool) (k p : ℕ) → get_or done k false ≡ false → get_or done p false ≡ true → p ≡ k → ⊥

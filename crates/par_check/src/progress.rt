@@ -35,7 +35,7 @@ pub(crate) fn compute_signs(
     ensures right { IfOk result (λ s. SignsAreRight t.now room.old.limit s.place) }
     ensures knows { IfOk result (λ s. KnowsBefore t.now room.new s.place) }
     ensures within { IfOk result (λ s. s.place ≤ length t.now) }
-    ensures trace { IsTrace t.now }
+    ensures trace { IfOk result (λ s. IsTrace t.now) }
 {
     if let Some(rounds) = Rounds::find(alloc, t)?
         && compute_in_rounds(rt, alloc, t, room, &rounds, pieces)?
@@ -64,12 +64,16 @@ fn compute_in_rounds(
     ensures right { IfOk result
         (λ all. OnTrue all (SignsAreRight t.now room.old.limit (length t.now))) }
     ensures knows { IfOk result (λ all. OnTrue all (KnowsBefore t.now room.new (length t.now))) }
+    ensures trace { IfOk result (λ all. IsTrace t.now) }
 {
     room.clear(t);
     let mut progress = Progress::new(alloc, t)?;
     let mut desk = Desk::new(alloc, room)?;
     let right = progress.compute_rounds(rt, alloc, room, rounds, pieces, &mut desk)?;
-    Ok(right && progress.is_complete())
+    if !right {
+        return Ok(false);
+    }
+    Ok(progress.is_complete())
 }
 
 /// What a worker computes clauses on.
@@ -106,6 +110,7 @@ impl<'a> Progress<'a> {
         ensures all { IfOk result (λ p. length p.done.items ≡ length t.now) }
         ensures signs { IfOk result
             (λ p. (k : ℕ) → IsCompactAt t.now k → get_or p.done.items k false ≡ false) }
+        ensures is { IfOk result (λ p. IsTrace t.now) }
     {
         let mut done = Vec::with_capacity(alloc, t.len() as usize)?;
         for k in 0..t.len() {
@@ -379,7 +384,8 @@ impl<'a> Progress<'a> {
             room.new.computed.total self.new.done.items)) }
     {
         for p in 0..parts {
-            if !self.keep_part(room, part(places, parts, p), &found[p as usize])? {
+            let right = self.keep_part(room, part(places, parts, p), &found[p as usize])?;
+            if !right {
                 return Ok(false);
             }
         }
@@ -445,9 +451,7 @@ impl<'a> Progress<'a> {
                         (literals_at self.now.t.now room.now.computed.clauses q)) }
                     ensures { IsPart self.entry.now.t.now room.entry.now.computed.clauses
                         self.entry.now.done.items (places_of places.entry.now parts p) result }
-                {
-                    self.compute_part(alloc, room, part(places, parts, p), most)
-                },
+                { self.compute_part(alloc, room, part(places, parts, p), most) },
             )
             .collect::<Vec<_>>(rt, alloc)?;
         Ok(found)

@@ -1,4 +1,4 @@
-use Rattle.std.proofs.Common.{ℕ, ◌<◌, Option, Some, IfSome, subst, arith}
+use Rattle.std.proofs.Common.{ℕ, ◌<◌, Option, Some, IfSome, subst}
 use Rattle.clause_defs.specs.Verdicts.{ClauseFault}
 use Rattle.clause_defs.specs.declared.verdict.Verdict.{Verdict}
 use Rattle.par_check.proofs.PieceLemmas.{piece_joined}

@@ -1,5 +1,4 @@
-use Rattle.std.proofs.Common.{◌≡◌, Bool, false, true, List, get_or, set, sym, subst, arith}
-use Rattle.clause_defs.specs.Clauses.{Lits}
+use Rattle.std.proofs.Common.{◌≡◌, Bool, true, get_or, set, sym, subst, arith}
 use Rattle.par_check.specs.Progress.{IsComputedBy, AreDone}
 use Rattle.par_check.proofs.ProgressLemmas.{kept, one_more}
 use Rattle.par_check.proofs.progress.Progress.keep.Goals as goal

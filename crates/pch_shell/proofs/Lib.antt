@@ -4,3 +4,4 @@ pub mod CompactLemmas
 pub mod LoadLemmas
 pub mod RunLemmas
 pub mod VerifyLemmas
+pub mod PlaceLemmas

@@ -13,7 +13,7 @@ use fabric::Geometry;
 use lut_map::Luts;
 use route_defs::Span;
 use std::alloc::{AllocError, Global};
-use words::{hold, push_cell, push_channel, push_off, tapped_word};
+use placing_words::{hold, push_cell, push_channel, push_off, tapped_word};
 
 /// The seats of signals, with the tracks that they have.
 #[derive(Debug, Drop)]

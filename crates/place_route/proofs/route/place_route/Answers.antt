@@ -68,8 +68,8 @@ returns-in_err-refuse-2-clause-route c =
     rw (p.1, p.2) (inr fault)
 
 -- where no part has a demand that is over, nothing is wanting
-pub placing_words-requires-clause-met : goal.placing_words-requires-clause-met
-placing_words-requires-clause-met c =
+pub routed_words-requires-clause-met : goal.routed_words-requires-clause-met
+routed_words-requires-clause-met c =
     let l = c.args.l.now in
     let g = c.args.g in
     let columns = c.columns-columns.result.now in

@@ -5,6 +5,8 @@
 #include <stdio.h>
 #include <stdlib.h>
 #include <errno.h>
+#include <sys/syscall.h>
+#include <unistd.h>
 
 extern void *__libc_malloc(size_t), *__libc_calloc(size_t, size_t), *__libc_realloc(void *, size_t);
 extern void *__libc_memalign(size_t, size_t);
@@ -20,12 +22,23 @@ __attribute__((constructor)) static void begin(void) {
 }
 
 __attribute__((destructor)) static void end(void) {
+    if (!counting) {
+        return;
+    }
     counting = 0;
     const char *name = getenv("COUNT");
     FILE *out = name ? fopen(name, "w") : NULL;
     if (out) {
         fprintf(out, "%lu\n", atomic_load(&asked));
         fclose(out);
+    }
+}
+
+// A program that ends by this call runs no destructor.
+void _exit(int status) {
+    end();
+    for (;;) {
+        syscall(SYS_exit_group, status);
     }
 }
 

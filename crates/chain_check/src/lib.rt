@@ -17,6 +17,8 @@ mod computed;
 mod marks;
 mod room;
 mod stated;
+#[cfg(test)]
+mod tests;
 mod trace;
 
 pub use chain::check_chain;

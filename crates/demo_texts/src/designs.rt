@@ -1,6 +1,6 @@
 //! Both designs, block by block and bit by bit, in the order of their definitions.
 
-ghost use Rattle.std.specs.Prelude.{◌≡◌, ◌≤◌, ◌<◌, ◌+◌, ◌-◌, ◌*◌, ◌^◌, ℕ, List, [], ◌∷◌, ◌++◌, map, slice_index, IfOk, OnOk};
+ghost use Rattle.std.specs.Prelude.{◌≡◌, ◌≤◌, ◌<◌, ◌+◌, ◌-◌, ◌*◌, ◌^◌, [], ◌∷◌, ◌++◌, map, slice_index, IfOk, OnOk};
 ghost use Rattle.fabric_defs.specs.Numbered.{joined, list_of};
 ghost use Rattle.blif_read.specs.Views.{blif_of, cover_of};
 ghost use Rattle.demo_texts.specs.Designs.{ripple_bit, carry_out, guess, choice, later_block, later_blocks, adder, ripple_design, select_design};
@@ -105,7 +105,8 @@ fn push_choice(
 ) -> Result<(), NoMemory>
     requires { 1 ≤ lo }
     ensures { OnOk result (map cover_of covers.new.items ≡ map cover_of covers.old.items
-        ++ choice lo (slice_index letters 0) (slice_index letters 1) i (slice_index letters 2) ∷ []) }
+        ++ choice lo (slice_index letters 0) (slice_index letters 1) i (slice_index letters 2)
+        ∷ []) }
 {
     let [without, with, out] = letters;
     let ins = [

@@ -78,11 +78,11 @@ select_covers bits =
 -- a design with the inputs and outputs of both
 abbrev pub adder : List ℕ → ℕ → List CoverValue → BlifValue
 adder model bits covers = record {
-    model = model;
-    inputs = names_of FIRST bits ++ names_of SECOND bits;
-    outputs = names_of SUM bits ++ codes "cout" ∷ [];
-    covers = covers;
-  }
+  model = model;
+  inputs = names_of FIRST bits ++ names_of SECOND bits;
+  outputs = names_of SUM bits ++ codes "cout" ∷ [];
+  covers = covers;
+}
 
 -- the first design
 abbrev pub ripple_design : ℕ → BlifValue

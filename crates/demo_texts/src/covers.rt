@@ -1,7 +1,6 @@
 //! Names and covers, one after another.
 
-ghost use Rattle.std.specs.Prelude.{◌≡◌, ℕ, List, [], ◌∷◌, ◌++◌, length, map, IfOk, OnOk};
-ghost use Rattle.fabric_defs.specs.Numbered.{list_of};
+ghost use Rattle.std.specs.Prelude.{◌≡◌, [], ◌∷◌, ◌++◌, map, IfOk, OnOk};
 ghost use Rattle.blif_read.specs.Views.{cover_of};
 ghost use Rattle.demo_texts.specs.Functions.{cover};
 ghost use Rattle.demo_texts.specs.Names.{names_of};

@@ -1,6 +1,6 @@
 //! Both designs, block by block and bit by bit, in the order of their definitions.
 
-ghost use Rattle.std.specs.Prelude.{◌≡◌, ◌≤◌, ◌<◌, ◌+◌, ◌-◌, ◌*◌, ◌^◌, ℕ, List, [], ◌∷◌, ◌++◌, map, slice_index, IfOk, OnOk};
+ghost use Rattle.std.specs.Prelude.{◌≡◌, ◌≤◌, ◌<◌, ◌+◌, ◌-◌, ◌*◌, ◌^◌, [], ◌∷◌, ◌++◌, map, slice_index, IfOk, OnOk};
 ghost use Rattle.fabric_defs.specs.Numbered.{joined, list_of};
 ghost use Rattle.blif_read.specs.Views.{blif_of, cover_of};
 ghost use Rattle.demo_texts.specs.Designs.{ripple_bit, carry_out, guess, choice, later_block, later_blocks, adder, ripple_design, select_design};
@@ -9,9 +9,7 @@ ghost use Rattle.demo_texts.specs.declared.letter.TheConstants.{SUM, SUM_WITHOUT
 
 use crate::covers::{Signal, push_cover, push_names};
 use crate::function::Function;
-use crate::letter::{
-    CARRY, CARRY_WITH, CARRY_WITHOUT, FIRST, SECOND, SUM, SUM_WITH, SUM_WITHOUT,
-};
+use crate::letter::{CARRY, CARRY_WITH, CARRY_WITHOUT, FIRST, SECOND, SUM, SUM_WITH, SUM_WITHOUT};
 use blif_read::{Blif, Cover, Covers, Names};
 use pch_base::{Name, NoMemory};
 use std::alloc::Global;
@@ -55,7 +53,13 @@ fn push_carry_out(alloc: Global, bits: u32, covers: &mut Vec<Cover>) -> Result<(
         (map cover_of covers.new.items ≡ map cover_of covers.old.items ++ carry_out bits ∷ []) }
 {
     let out = Name::from_bytes(alloc, b"cout")?;
-    push_cover(alloc, Function::Same, &[Signal::new(CARRY, bits - 1)], out, covers)
+    push_cover(
+        alloc,
+        Function::Same,
+        &[Signal::new(CARRY, bits - 1)],
+        out,
+        covers,
+    )
 }
 
 /// Appends bit `lo + d` of a block from bit `lo` on, for both carries that may come into the block.
@@ -79,7 +83,13 @@ fn push_guess(alloc: Global, lo: u32, d: u32, covers: &mut Vec<Cover>) -> Result
         let without = Signal::new(CARRY_WITHOUT, i - 1);
         let with = Signal::new(CARRY_WITH, i - 1);
         push_cover(alloc, Function::Xor3, &[a, b, without], sum_without, covers)?;
-        push_cover(alloc, Function::Majority, &[a, b, without], carry_without, covers)?;
+        push_cover(
+            alloc,
+            Function::Majority,
+            &[a, b, without],
+            carry_without,
+            covers,
+        )?;
         push_cover(alloc, Function::Xor3, &[a, b, with], sum_with, covers)?;
         push_cover(alloc, Function::Majority, &[a, b, with], carry_with, covers)
     }
@@ -95,11 +105,22 @@ fn push_choice(
 ) -> Result<(), NoMemory>
     requires { 1 ≤ lo }
     ensures { OnOk result (map cover_of covers.new.items ≡ map cover_of covers.old.items
-        ++ choice lo (slice_index letters 0) (slice_index letters 1) i (slice_index letters 2) ∷ []) }
+        ++ choice lo (slice_index letters 0) (slice_index letters 1) i (slice_index letters 2)
+        ∷ []) }
 {
     let [without, with, out] = letters;
-    let ins = [Signal::new(CARRY, lo - 1), Signal::new(without, i), Signal::new(with, i)];
-    push_cover(alloc, Function::Choice, &ins, Signal::new(out, i).name(alloc)?, covers)
+    let ins = [
+        Signal::new(CARRY, lo - 1),
+        Signal::new(without, i),
+        Signal::new(with, i),
+    ];
+    push_cover(
+        alloc,
+        Function::Choice,
+        &ins,
+        Signal::new(out, i).name(alloc)?,
+        covers,
+    )
 }
 
 /// Appends the guesses of a block of `width` bits from bit `lo` on.

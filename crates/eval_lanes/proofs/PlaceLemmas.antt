@@ -11,7 +11,7 @@ use Rattle.fabric.proofs.PinLemmas.{listed_at, pins_wired}
 use Rattle.fabric.proofs.ColumnLemmas.{HasChannel-first, channel_next}
 use Rattle.lanes_defs.specs.Lanes.{lane}
 use Rattle.lanes_defs.specs.declared.TheConstants.{LANES}
-use Rattle.eval_lanes.specs.Places.{cell_place, place_bit, seen_bit, NamesChannel, HaveValues}
+use Rattle.eval_lanes.specs.Places.{cell_place, place_bit, seen_bit, cell_bit, NamesChannel, HaveValues}
 use Rattle.eval_lanes.proofs.LaneLemmas.{lane_at, pad_lane}
 
 -- the bit at the place that stands at i
@@ -136,24 +136,26 @@ same_map : (f g : ℕ → ℕ) → ((i : ℕ) → f i ≡ g i) → (xs : List �
 same_map f g h [] = refl
 same_map f g h (x ∷ xs) = let head : f x ≡ g x = h x in let tail : map f xs ≡ map g xs = same_map f g h xs in cc
 
--- one more cell of a column
-pub HaveValues-more : (config : ConfigValue) (inputs : ℕ → List ℕ) (words tracks : List ℕ) (column row word : ℕ)
+-- one more cell of a column, which was computed of the words before the column
+pub HaveValues-more : (config : ConfigValue) (inputs : ℕ → List ℕ) (words seen tracks : List ℕ) (column row word : ℕ)
     → column < config.geometry.columns → row < config.geometry.rows
     → cell_place config.geometry (column * config.geometry.rows + row) < length words → NamesChannel config column tracks
+    → HaveValues config inputs (column * config.geometry.rows) seen
     → HaveValues config inputs (column * config.geometry.rows + row) words
-    → ((j : ℕ) → j < LANES → bit_at word j ≡ table_bit (table config column row) (map (seen_bit (lane words j) tracks) (pin_words config column row)))
+    → ((j : ℕ) → j < LANES → bit_at word j ≡ cell_bit config (lane seen j) tracks column row)
     → HaveValues config inputs (column * config.geometry.rows + (row + 1))
     (set words (cell_place config.geometry (column * config.geometry.rows + row)) word)
-HaveValues-more config inputs words tracks column row word c_lt r_lt fits names have is = λ j w j_lt wired p lt.
+HaveValues-more config inputs words seen tracks column row word c_lt r_lt fits names before have is = λ j w j_lt wired p lt.
     let g = config.geometry in
-    let n : ℕ = column * g.rows + row in
+    let first : ℕ = column * g.rows in
+    let n : ℕ = first + row in
     let at : ℕ = cell_place g n in
     let f : ℕ → ℕ = place_bit g (inputs j) w.cells in
     let own : bit_at word j ≡ get_or w.cells n 0 =
     is j j_lt
     ∙ ap (table_bit (table config column row))
-    (same_map (seen_bit (lane words j) tracks) (λ pin. get_or (map f tracks) pin 0)
-    (λ pin. seen_wired config inputs words tracks column n j pin w names (omega arith) have j_lt wired
+    (same_map (seen_bit (lane seen j) tracks) (λ pin. get_or (map f tracks) pin 0)
+    (λ pin. seen_wired config inputs seen tracks column first j pin w names (omega arith) before j_lt wired
     ∙ ap (λ l. get_or l pin 0) (sym (names.bits (inputs j) w wired))) (pin_words config column row)
     ∙ pins_wired config (inputs j) w (map f tracks) column row wired (names.bits (inputs j) w wired) c_lt r_lt)
     ∙ sym (wired.cells column row c_lt r_lt) in

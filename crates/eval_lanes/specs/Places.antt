@@ -3,8 +3,8 @@
 use Rattle.std.specs.Prelude.{◌≡◌, ℕ, zero, suc, ◌+◌, ◌-◌, ◌*◌, ◌<◌, List, ◌∷◌, length, map, All, nat_lt, slice_index, if◌then◌else◌}
 use Rattle.std.specs.Int.{bit_at}
 use Rattle.fabric_defs.specs.Geometries.{GeometryValue, cell_count}
-use Rattle.fabric_defs.specs.Configurations.{ConfigValue}
-use Rattle.fabric_defs.specs.Wirings.{Wiring, Wired, channel}
+use Rattle.fabric_defs.specs.Configurations.{ConfigValue, pin_words, table}
+use Rattle.fabric_defs.specs.Wirings.{Wiring, Wired, channel, table_bit}
 use Rattle.lanes_defs.specs.declared.TheConstants.{LANES}
 
 -- the place of the cell of this number
@@ -24,6 +24,11 @@ place_bit g x cells (suc p) =
 -- the bit at the place of what a track carries; the tracks have their places behind off
 abbrev pub seen_bit : List ℕ → List ℕ → ℕ → ℕ
 seen_bit bits tracks word = slice_index bits (slice_index tracks word)
+
+-- the bit of the cell at a column and a row, where the places have these bits
+abbrev pub cell_bit : ConfigValue → List ℕ → List ℕ → ℕ → ℕ → ℕ
+cell_bit config bits tracks column row =
+    table_bit (table config column row) (map (seen_bit bits tracks) (pin_words config column row))
 
 -- These are the places of off, and of what each track of channel c carries: of pads and of cells of
 -- the columns before the channel.

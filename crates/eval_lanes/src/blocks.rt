@@ -74,7 +74,8 @@ pub(crate) trait CellBlock: Block {
         requires tracks { All (λ place. place < length values.now) tracks.now }
         ensures { (i j : ℕ) → i < Self.width → j < LANES
             → let bits = lane (words_of Self.word values.now i) j in
-            bit_at (Self.word result i) j ≡ table_bit table (map (seen_bit bits tracks.now) pins.now) };
+            bit_at (Self.word result i) j
+            ≡ table_bit table (map (seen_bit bits tracks.now) pins.now) };
 }
 
 impl CellBlock for u64 {

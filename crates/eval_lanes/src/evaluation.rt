@@ -4,21 +4,25 @@
 //! Cells are computed by a pass of their own for each kind, which is written once and gets the kind
 //! as a fixed value: so the loops over the pins of a cell have fixed ends.
 
-ghost use Rattle.std.specs.Prelude.{◌≡◌, ℕ, ◌+◌, ◌*◌, ◌<◌, ◌≤◌, List, length, map, slice_index};
+ghost use Rattle.std.specs.Prelude.{◌≡◌, ℕ, ◌+◌, ◌*◌, ◌<◌, ◌≤◌, List, length, slice_index};
 ghost use Rattle.std.specs.Int.{bit_at};
 ghost use Rattle.fabric_defs.specs.Geometries.{cell_count};
-ghost use Rattle.fabric_defs.specs.Configurations.{IsConfig, pin_words, table};
-ghost use Rattle.fabric_defs.specs.Wirings.{FabOut, pad_bit, table_bit};
+ghost use Rattle.fabric_defs.specs.Configurations.{IsConfig};
+ghost use Rattle.fabric_defs.specs.Wirings.{FabOut, pad_bit};
+ghost use Rattle.fabric_defs.specs.declared.limits.TheConstants.{MAX_SIDE};
 ghost use Rattle.lanes_defs.specs.Lanes.{lane};
 ghost use Rattle.lanes_defs.specs.declared.TheConstants.{LANES};
 ghost use Rattle.eval_lanes.specs.Blocks.{words_of};
-ghost use Rattle.eval_lanes.specs.Places.{NamesChannel, HaveValues, GivesColumn, place_count, seen_bit};
+ghost use Rattle.eval_lanes.specs.Places.{NamesChannel, HaveValues, GivesColumn, place_count, cell_bit};
 
 use crate::blocks::CellBlock;
 use crate::places::{name_first_channel, switch_tracks};
 use crate::wires::LaneWires;
 use crate::words::Words;
 use fabric::{CellKind, Config};
+
+/// How many cells a column has at most.
+pub(crate) const SIDE: usize = 64;
 
 /// The block of the cell of this kind at a column and a row.
 #[inline(always)]
@@ -37,15 +41,40 @@ fn cell_word<W: CellBlock>(
     requires values { place_count config.now.geometry ≡ length values.now }
     ensures { (i j : ℕ) → i < W.width → j < LANES
         → let bits = lane (words_of W.word values.now i) j in
-        bit_at (W.word result i) j ≡ table_bit (table config.now column row)
-        (map (seen_bit bits tracks.now) (pin_words config.now column row)) }
+        bit_at (W.word result i) j ≡ cell_bit config.now bits tracks.now column row }
 {
     let pins = config.pins(column, row);
     let count = kind.pins() as usize;
     W::of_cell(config.table(column, row), &pins[..count], tracks, values)
 }
 
-/// Gives the cells of a column of this kind their words.
+/// Makes the first blocks those of the cells of a column of this kind, row by row. Nothing else is
+/// written here, so that what is read of the configuration can be read once for all rows.
+#[inline(always)]
+fn column_blocks<W: CellBlock>(
+    config: &Config,
+    kind: CellKind,
+    column: u32,
+    tracks: &Words<u32>,
+    values: &Words<W>,
+    blocks: &mut [W; SIDE],
+)
+    requires kind { kind ≡ config.now.geometry.kind }
+    requires column { column < config.now.geometry.columns }
+    requires tracks { NamesChannel config.now column tracks.now }
+    requires values { place_count config.now.geometry ≡ length values.now }
+    ensures count { length blocks.new ≡ MAX_SIDE }
+    ensures bits { (row i j : ℕ) → row < config.now.geometry.rows → i < W.width → j < LANES
+        → let bits = lane (words_of W.word values.now i) j in
+        bit_at (slice_index (words_of W.word blocks.new i) row) j
+        ≡ cell_bit config.now bits tracks.now column row }
+{
+    for row in 0..config.geometry().r() {
+        blocks[row as usize] = cell_word(config, kind, column, row, tracks, values);
+    }
+}
+
+/// Gives the cells of a column of this kind their words. `blocks` has room for them.
 #[inline(always)]
 fn put_cells_of<W: CellBlock>(
     config: &Config,
@@ -53,51 +82,59 @@ fn put_cells_of<W: CellBlock>(
     column: u32,
     tracks: &Words<u32>,
     values: &mut Words<W>,
+    blocks: &mut [W; SIDE],
 )
     requires kind { kind ≡ config.now.geometry.kind }
     requires column { column < config.now.geometry.columns }
     requires tracks { NamesChannel config.now column tracks.now }
     requires values { place_count config.now.geometry ≡ length values.old }
     ensures places { length values.new ≡ length values.old }
-    ensures cells { (i : ℕ) (inputs : ℕ → List ℕ) → i < W.width
-        → HaveValues config.now inputs (column * config.now.geometry.rows)
-        (words_of W.word values.old i)
-        → HaveValues config.now inputs ((column + 1) * config.now.geometry.rows)
-        (words_of W.word values.new i) }
+    ensures cells { (i : ℕ) → i < W.width → GivesColumn config.now column
+        (words_of W.word values.old i) (words_of W.word values.new i) }
 {
+    column_blocks(config, kind, column, tracks, values, blocks);
     let g = config.geometry();
     let first = g.i() + 1 + column * g.r();
     for row in 0..g.r() {
-        let word = cell_word(config, kind, column, row, tracks, values);
-        values.set((first + row) as usize, word);
+        values.set((first + row) as usize, blocks[row as usize]);
     }
 }
 
 /// Gives the cells of a column their words, by the pass of their kind.
-fn put_cells<W: CellBlock>(config: &Config, column: u32, tracks: &Words<u32>, values: &mut Words<W>)
+#[inline(always)]
+fn put_cells<W: CellBlock>(
+    config: &Config,
+    column: u32,
+    tracks: &Words<u32>,
+    values: &mut Words<W>,
+    blocks: &mut [W; SIDE],
+)
     requires column { column < config.now.geometry.columns }
     requires tracks { NamesChannel config.now column tracks.now }
     requires values { place_count config.now.geometry ≡ length values.old }
     ensures places { length values.new ≡ length values.old }
-    ensures cells { (i : ℕ) (inputs : ℕ → List ℕ) → i < W.width
-        → HaveValues config.now inputs (column * config.now.geometry.rows)
-        (words_of W.word values.old i)
-        → HaveValues config.now inputs ((column + 1) * config.now.geometry.rows)
-        (words_of W.word values.new i) }
+    ensures cells { (i : ℕ) → i < W.width → GivesColumn config.now column
+        (words_of W.word values.old i) (words_of W.word values.new i) }
 {
     match config.geometry().cell_kind() {
         CellKind::FourInputs => {
-            put_cells_of(config, CellKind::FourInputs, column, tracks, values);
+            put_cells_of(config, CellKind::FourInputs, column, tracks, values, blocks);
         }
         CellKind::SixInputs => {
-            put_cells_of(config, CellKind::SixInputs, column, tracks, values);
+            put_cells_of(config, CellKind::SixInputs, column, tracks, values, blocks);
         }
     }
 }
 
 /// Gives all cells their words, where the input pads have theirs, and the tracks the places of what
-/// the last channel carries.
-pub(crate) fn sweep<W: CellBlock>(config: &Config, tracks: &mut Words<u32>, values: &mut Words<W>)
+/// the last channel carries. `blocks` has room for the words of a column.
+#[inline(always)]
+pub(crate) fn sweep<W: CellBlock>(
+    config: &Config,
+    tracks: &mut Words<u32>,
+    values: &mut Words<W>,
+    blocks: &mut [W; SIDE],
+)
     requires tracks { length tracks.old ≡ config.now.geometry.tracks + 1 }
     requires values { place_count config.now.geometry ≡ length values.old }
     ensures known { IsConfig config.now }
@@ -110,7 +147,7 @@ pub(crate) fn sweep<W: CellBlock>(config: &Config, tracks: &mut Words<u32>, valu
 {
     name_first_channel(config, tracks);
     for column in 0..config.geometry().c() {
-        put_cells(config, column, tracks, values);
+        put_cells(config, column, tracks, values, blocks);
         switch_tracks(config, column, tracks);
     }
 }
@@ -139,7 +176,7 @@ pub fn eval64(k: &Config, inputs: &[u64], out: &mut [u64], w: &mut LaneWires)
     ensures wires { w.new ≡ w.old }
 {
     put_inputs(inputs, k.geometry().i(), &mut w.words);
-    sweep(k, &mut w.tracks, &mut w.words);
+    sweep(k, &mut w.tracks, &mut w.words, &mut [0; SIDE]);
     let pads = k.output_pads();
     for pad in 0..pads.len() {
         let place = w.tracks.get(usize::from(pads[pad]));

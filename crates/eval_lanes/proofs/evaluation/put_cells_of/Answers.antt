@@ -1,10 +1,11 @@
-use Rattle.std.proofs.Common.{◌≡◌, ℕ, ◌+◌, ◌*◌, ◌<◌, List, length, set, ap, sym, ◌∙◌, subst, arith}
+use Rattle.std.proofs.Common.{◌≡◌, ℕ, ◌+◌, ◌*◌, ◌<◌, List, length, get_or, set, ap, sym, ◌∙◌, subst, arith}
+use Rattle.std.specs.Int.{bit_at}
 use Rattle.std.proofs.lemmas.List.{length-set}
 use Rattle.fabric_defs.specs.Geometries.{GeometryValue}
 use Rattle.fabric_laws.proofs.LayoutLemmas.{cell_number-lt}
 use Rattle.eval_lanes.specs.Blocks.{words_of}
 use Rattle.eval_lanes.specs.Places.{cell_place, HaveValues}
-use Rattle.eval_lanes.proofs.LaneLemmas.{words_of-set, length-words_of}
+use Rattle.eval_lanes.proofs.LaneLemmas.{word_read, words_of-set, length-words_of}
 use Rattle.eval_lanes.proofs.PlaceLemmas.{HaveValues-more}
 use Rattle.eval_lanes.proofs.evaluation.put_cells_of.Goals as goal
 
@@ -16,7 +17,8 @@ loop-row-preserved g c =
     let column : ℕ = c.args.column in
     let row : ℕ = c.loop-row.row in
     let values = c.loop-row.values in
-    let block = c.cell_word-word.result in
+    let blocks = c.column_blocks.new.blocks in
+    let block = get_or blocks row c.index-blocks-row.result in
     let n : ℕ = column * geo.rows + row in
     let pads : c.i.result ≡ geo.input_pads = c.i.ensures.value ∙ ap (λ (g : GeometryValue). g.input_pads) c.geometry-g.ensures.value in
     let same = ap (λ (g : GeometryValue). g.rows) c.geometry-g.ensures.value in
@@ -28,13 +30,15 @@ loop-row-preserved g c =
       places = ap length c.set.ensures ∙ length-set values _ _ ∙ c.loop-row.invariant.places;
       done = λ i inputs i_lt have.
           let words = words_of word values i in
+          let seen = words_of word c.args.values.now i in
           let P : List ℕ → Type 0 = HaveValues config inputs (column * geo.rows + (row + 1)) in
           let written : words_of word c.set.new.self i ≡ set words (cell_place geo n) (word block i) =
           ap (λ l. words_of word l i) c.set.ensures
           ∙ words_of-set word values i _ block
           ∙ ap (λ p. set words p (word block i)) at in
           subst P (sym written)
-          (HaveValues-more config inputs words c.args.tracks.now column row (word block i) c.requires.column inside
-          (omega (arith, fits, length-words_of word values i)) c.requires.tracks (c.loop-row.invariant.done i inputs i_lt have)
-          (λ j j_lt. c.cell_word-word.ensures i j i_lt j_lt));
+          (HaveValues-more config inputs words seen c.args.tracks.now column row (word block i) c.requires.column inside
+          (omega (arith, fits, length-words_of word values i)) c.requires.tracks have (c.loop-row.invariant.done i inputs i_lt have)
+          (λ j j_lt. ap (λ m. bit_at m j) (sym (word_read word blocks i row c.index-blocks-row.result (omega (arith, c.column_blocks.ensures.count))))
+          ∙ c.column_blocks.ensures.bits row i j inside i_lt j_lt));
     }

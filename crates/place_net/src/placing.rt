@@ -6,7 +6,6 @@ ghost use Rattle.place_net.specs.Placings.{PlacingOf};
 
 use fabric::{Config, Geometry};
 use lut_map::map;
-use map_laws::reference_cells_are_narrow;
 use netlist::Net;
 use place_route::place_route;
 use route_defs::RouteError;
@@ -22,6 +21,5 @@ pub fn place(alloc: Global, net: &Net, g: Geometry) -> Result<Config, RouteError
     let Ok(luts) = map(alloc, net) else {
         return Err(RouteError::NoMemory);
     };
-    reference_cells_are_narrow();
     place_route(alloc, &luts, g)
 }

@@ -1,11 +1,11 @@
-use Rattle.std.proofs.Common.{◌≡◌, ◌+◌, ◌*◌, ◌<◌, ◌≤◌, ℕ, List, length, vec_len, get_or, None, Ok, Err, inr, ap, subst, sym, ◌∙◌, arith}
+use Rattle.std.proofs.Common.{◌≡◌, ◌+◌, ◌*◌, ◌≤◌, ℕ, List, length, vec_len, get_or, None, Ok, Err, inr, ap, subst, sym, ◌∙◌, arith}
 use Rattle.std.proofs.lemmas.Result.{err_from_is_err_and}
 use Rattle.fabric_defs.specs.Configurations.{ConfigOf}
 use Rattle.route_defs.specs.declared.span.Span.{Span}
 use Rattle.route_defs.specs.declared.demand.Demand.{Demand}
 use Rattle.route_defs.specs.Spans.{span_at, need}
 use Rattle.route_defs.specs.Signals.{AreSpans}
-use Rattle.route_defs.specs.Demands.{cells_in, demands, first_over}
+use Rattle.route_defs.specs.Demands.{demands, first_over}
 use Rattle.route_defs.specs.Routes.{RouteOf}
 use Rattle.route_laws.proofs.SignalLemmas.{ends-le}
 use Rattle.place_route.specs.Refusals.{Refuses, fabric_demands, listed_demands}

@@ -1,4 +1,4 @@
-use Rattle.std.proofs.Common.{◌≡◌, ◌++◌, length}
+use Rattle.std.proofs.Common.{◌≡◌, ◌++◌}
 use Rattle.fabric_defs.specs.Numbered.{list_of}
 use Rattle.placing_words.proofs.cells.push_off.Given as goal
 

@@ -67,17 +67,18 @@ pub trace_fits : (now items : List ℕ) (short steps : List Entry) (text : List 
 trace_fits now items short steps text a b c reads = rw (a, b, c) (compacted-fits text steps reads)
 
 -- what was printed is the compacted bundle
-pub compacted_is : (items now printed : List ℕ) (short steps : List Entry) (v : BundleValue) (o : Outcome)
+pub compacted_is : {N : Type 0} (r : Result Outcome N) (items now printed : List ℕ) (short steps : List Entry) (v : BundleValue)
     → items ≡ bundle_bytes (record { version = 2; geometry = v.geometry; config = v.config; trace = now })
     → now ≡ printed → printed ≡ trace_text short → short ≡ compacted steps
-    → o ≡ done_with items (written_line (length items))
-    → (x : List ℕ) × (x ≡ bundle_bytes (compacted_bundle v steps)) × (o ≡ done_with x (written_line (length x)))
-compacted_is items now printed short steps v o is a b c told = (
+    → IfOk r (λ o. o ≡ done_with items (written_line (length items)))
+    → IfOk r (λ o. (x : List ℕ) × (x ≡ bundle_bytes (compacted_bundle v steps)) × (o ≡ done_with x (written_line (length x))))
+compacted_is (Ok o) items now printed short steps v is a b c told = (
   items,
   is ∙ ap (λ (t : List ℕ). bundle_bytes (record { version = 2; geometry = v.geometry; config = v.config; trace = t }))
       (a ∙ b ∙ ap trace_text c),
   told,
 )
+compacted_is (Err n) items now printed short steps v is a b c told = told
 
 -- the bytes are no bundle
 pub bad_bundle_due : {N : Type 0} (r : Result Outcome N) (name bytes : List ℕ) (error : BundleError)

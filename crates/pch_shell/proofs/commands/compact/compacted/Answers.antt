@@ -1,4 +1,3 @@
-use Rattle.std.proofs.Common.{rules}
 use Rattle.bundle.specs.Values.{value_of}
 use Rattle.pch_shell.proofs.CompactLemmas.{trace_fits, compacted_is}
 use Rattle.pch_shell.proofs.commands.compact.compacted.Goals as goal
@@ -12,5 +11,5 @@ print_bundle-requires-clause-trace c =
 -- the saved bytes are those of the compacted bundle
 pub returns : goal.returns
 returns c =
-    compacted_is c.in_ok-bytes.bytes.items _ _ _ c.args.steps (value_of c.args.bundle) c.done_with.result c.in_ok-bytes.ensures
-    c.deref.ensures.value c.in_ok-trace.ensures c.in_ok-compact.ensures (search rules)
+    compacted_is c.written.result c.in_ok-bytes.bytes.items _ _ _ c.args.steps (value_of c.args.bundle) c.in_ok-bytes.ensures
+    c.deref.ensures.value c.in_ok-trace.ensures c.in_ok-compact.ensures c.written.ensures

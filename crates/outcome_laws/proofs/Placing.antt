@@ -53,7 +53,7 @@ placed_length g design bytes h = h.spells.0
 -- a design that is placed needs no more than is there
 placed_not_over : (g : GeometryValue) (design bytes : List ℕ) (over : Demand) → IsPlacing g design bytes → IsUnroutable g design over → ⊥
 placed_not_over g design bytes over h k =
-    let same : None {A = Demand} ≡ Some over = one_answer g design h.net k.net None (Some over) h.describes k.describes h.enough k.first in
+    let same = one_answer g design h.net k.net None (Some over) h.describes k.describes h.enough k.first in
     cc
 
 -- a design that needs more than is there has one first resource of which it does

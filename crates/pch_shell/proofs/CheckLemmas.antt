@@ -1,5 +1,5 @@
 -- What `check` comes to for the bytes of both files.
-use Rattle.std.proofs.Common.{◌≡◌, ◌≢◌, ◌⊎◌, inl, inr, ℕ, List, Result, Ok, Err, IfOk, refl, sym, subst, ap, codes}
+use Rattle.std.proofs.Common.{◌≡◌, ◌≢◌, ◌⊎◌, inl, inr, ℕ, List, Result, Ok, Err, IfOk, subst, codes}
 use Rattle.clause_defs.specs.Clauses.{Unsat}
 use Rattle.clause_defs.specs.Formulas.{Formula}
 use Rattle.clause_defs.specs.Traces.{Entry}

@@ -7,7 +7,7 @@ use Rattle.pch_io.specs.declared.store.LoadFail.TheVariants as fails
 use Rattle.pch_io.specs.Outside.{Files, Rose, Loads, LoadCause, Saves, Spoils, Appends}
 use Rattle.pch_lines.specs.Words.{Form, form_of, check, verify, cnf, compact, place}
 use Rattle.pch_lines.specs.Files.{FileValue, files_of, out_of}
-use Rattle.pch_shell.specs.Outcomes.{Outcome, no_words, not_stored}
+use Rattle.pch_shell.specs.Outcomes.{Outcome, not_stored}
 use Rattle.pch_shell.specs.Loading.{AreLoaded, IsNotLoaded}
 use Rattle.pch_shell.specs.Check.{Refuted, CheckDue}
 use Rattle.pch_shell.specs.Verify.{IsAccepted, VerifyDue}
@@ -15,7 +15,7 @@ use Rattle.pch_shell.specs.Cnf.{CnfDue}
 use Rattle.pch_shell.specs.Compact.{CompactDue}
 use Rattle.pch_shell.specs.Place.{PlaceDue}
 use Rattle.pch_shell.specs.Due.{OfOne, OfTwo, FilesDue, Holds}
-use Rattle.pch_shell.specs.Runs.{StoreState, SinkState, OnlyOut, AreSaved, NotSaved, AfterSave, Works, StopsAtLoad, Tells, WordsTell, out_named, Put, Worked, Leaves, WantsMemory, Ends, NamesFirstOver, HoldsOut, Shows, StoreCause, IsDecided, Completes, Runs}
+use Rattle.pch_shell.specs.Runs.{StoreState, SinkState, OnlyOut, AreSaved, NotSaved, AfterSave, Tells, WordsTell, out_named, Put, Leaves, Ends, NamesFirstOver, HoldsOut, Shows, StoreCause, IsDecided, Completes, Runs}
 use Rattle.pch_shell.specs.declared.status.Status.{Status}
 use Rattle.pch_shell.specs.declared.status.Status.TheVariants.{Done, NotAccepted, Words, Store, Sink, Memory, Unroutable, BadInput}
 

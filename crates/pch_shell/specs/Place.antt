@@ -1,5 +1,5 @@
 -- What `place DESIGN C R T I O OUT` finds in the bytes of the design, and what it comes to.
-use Rattle.std.specs.Prelude.{◌≡◌, ◌⊎◌, ℕ, List, length, Option, Some, None, Ok, codes}
+use Rattle.std.specs.Prelude.{◌≡◌, ◌⊎◌, ℕ, List, length, Some, None, Ok, codes}
 use Rattle.net_defs.specs.Networks.{Network}
 use Rattle.net_defs.specs.Specifications.{HasNetwork, IsSpecFault}
 use Rattle.net_defs.specs.declared.specification.SpecError.{SpecError}

@@ -1,5 +1,5 @@
 -- What a run of the program does to the store and the sink, which status it ends with, and why.
-use Rattle.std.specs.Prelude.{◌≡◌, ◌≢◌, ◌⊎◌, ℕ, List, [], Option, Some, None}
+use Rattle.std.specs.Prelude.{◌≡◌, ◌≢◌, ◌⊎◌, ℕ, List, Option, Some, None}
 use Rattle.blif_defs.specs.declared.mark.TheConstants.{MAX_BYTES}
 use Rattle.fabric_defs.specs.Geometries.{GeometryValue}
 use Rattle.route_defs.specs.declared.demand.Demand.{Demand}

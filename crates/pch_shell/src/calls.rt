@@ -50,7 +50,9 @@ fn work<R: Threads + Sync>(
         }
         Command::Compact { bundle, .. } => compact::run(alloc, bundle, loaded.one()),
         Command::Place {
-            design, geometry, ..
+            design,
+            geometry,
+            ..
         } => placing::run(alloc, design, geometry, loaded.one()),
     }
 }

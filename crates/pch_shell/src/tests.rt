@@ -72,8 +72,7 @@ fn one_load_and_one_save(rt: HostRuntime) -> Result<(), Fail> {
     let alloc = rt.alloc();
     let mut files = Vec::new(alloc);
     files.push((named(alloc, "d")?, DESIGN.to_vec(alloc)?))?;
-    let mut store =
-        MemStore::new(alloc, files, vec![in alloc; 3]?).map_err(|_| AllocError)?;
+    let mut store = MemStore::new(alloc, files, vec![in alloc; 3]?).map_err(|_| AllocError)?;
     let mut out = MemSink::new(alloc, Vec::new(alloc));
     let line = words_of(alloc, &["place", "d", "1", "1", "1", "1", "1", "o"])?;
     let status = command(&rt, alloc, &line, &mut store, &mut out);

@@ -16,12 +16,7 @@ use route_defs::{Demand, RouteError};
 use std::alloc::Global;
 
 /// Reads and builds the design, and places it. The configuration is what is saved.
-pub fn run(
-    alloc: Global,
-    name: &str,
-    g: Geometry,
-    bytes: Vec<u8>,
-) -> Result<Ending, NoMemory>
+pub fn run(alloc: Global, name: &str, g: Geometry, bytes: Vec<u8>) -> Result<Ending, NoMemory>
     ensures { IfOk result (PlaceDue name.now g bytes.items) }
 {
     let net = match read_specification(alloc, &bytes) {
@@ -31,12 +26,14 @@ pub fn run(
     drop(bytes);
     match place(alloc, &net, g) {
         Ok(config) => Ending::written(alloc, print_config(alloc, &config)?),
-        Err(RouteError::Unroutable {
-            resource,
-            place,
-            need,
-            have,
-        }) => {
+        Err(
+            RouteError::Unroutable {
+                resource,
+                place,
+                need,
+                have,
+            },
+        ) => {
             let over = Demand {
                 resource,
                 place,

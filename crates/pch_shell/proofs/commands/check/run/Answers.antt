@@ -1,4 +1,4 @@
-use Rattle.std.proofs.Common.{rules, refl}
+use Rattle.std.proofs.Common.{rules}
 use Rattle.sat_values.specs.CnfFormula.{formula_of}
 use Rattle.cnf_text_laws.proofs.OverVariables.{formula_within}
 use Rattle.pch_shell.proofs.CheckLemmas.{bad_cnf_due, bad_trace_due, verified_due, refused_due}

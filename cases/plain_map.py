@@ -412,7 +412,7 @@ def compare(program, rounds, seed):
 
 def main(words):
     if words[0] == "compare":
-        rounds = int(words[2]) if len(words) > 2 else 40
+        rounds = int(words[2]) if len(words) > 2 else 100
         return compare(words[1], rounds, int(words[3]) if len(words) > 3 else random.randrange(10**9))
     with open(words[1]) as file:
         design = Design(file.read())

@@ -20,7 +20,7 @@ use Rattle.pch_lines.specs.FaultLines.{spec_line}
 use Rattle.pch_lines.specs.RouteLines.{unroutable_line}
 use Rattle.pch_shell.specs.Outcomes.{Outcome, done_with, unroutable, bad_input, written_line}
 use Rattle.pch_shell.specs.Place.{IsPlacing, IsUnroutable, PlaceDue}
-use Rattle.outcome_laws.specs.Telling.{AreToldAlike}
+use Rattle.outcome_laws.specs.Telling.{AreToldAlike, IsAnsweredBy}
 use Rattle.outcome_laws.proofs.Specifying.{one_net, one_spec_fault, net_not_faulty}
 
 -- the network of a text is a net
@@ -90,3 +90,19 @@ place_one name g design o p (inr (inr h)) (inr (inl k)) = let a = k.1 in absurd 
 place_one name g design o p (inr (inr h)) (inr (inr k)) =
     equal_alike o p
     (h.2 ∙ ap (λ e. bad_input (spec_line (and_word (codes "blif") name) e)) (one_spec_fault design h.0 k.0 h.1 k.1) ∙ sym k.2)
+
+-- a design that is a network is placed where no resource is over, and else the first that is over is named
+pub answered_by : (name : List ℕ) (g : GeometryValue) (design : List ℕ) (net : Network) (over : Option Demand) (o : Outcome)
+    → HasNetwork design net → FirstOver net g over → PlaceDue name g design o → IsAnsweredBy over o
+answered_by name g design net None o is first (inl h) = ap (λ (x : Outcome). x.status) h.2
+answered_by name g design net None o is first (inr (inl h)) =
+    let k = h.1 in let same = one_answer g design net k.net None (Some h.0) is k.describes first k.first in absurd (cc)
+answered_by name g design net (Some d) o is first (inl h) =
+    let k = h.1 in let same = one_answer g design net k.net (Some d) None is k.describes first k.enough in absurd (cc)
+answered_by name g design net (Some d) o is first (inr (inl h)) =
+    let k = h.1 in
+    let same = one_answer g design net k.net (Some d) (Some h.0) is k.describes first k.first in
+    let demand : h.0 ≡ d = cc in
+    h.2 ∙ ap (λ e. unroutable (unroutable_line e)) demand
+answered_by name g design net None o is first (inr (inr h)) = absurd (net_not_faulty design net h.0 is h.1)
+answered_by name g design net (Some d) o is first (inr (inr h)) = absurd (net_not_faulty design net h.0 is h.1)

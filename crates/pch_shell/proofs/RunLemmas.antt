@@ -426,16 +426,22 @@ sink_rose form old new before after status is (inr (told, tells, inr (inr put)))
 -- where the files are loaded, their bytes decide how a run ends
 decided : (form : Form) (old new : StoreState) (before after : SinkState) (status : Status) (told : Outcome) (t : Files) (files : List (List ℕ))
     → old.files ≡ Some t → AreLoaded old.files (files_of form) files → Tells form old new told → status ≡ told.status
-    → IsDecided form files old new before after status
-decided form old new before after status told t files is_told loaded (inl w) is =
+    → Appends before.held after.held told.text → IsDecided form files old new before after status
+decided form old new before after status told t files is_told loaded (inl w) is put =
     let L : Option Files → List (List ℕ) → Type 0 = λ f bs. AreLoaded f (files_of form) bs in
     let same : w.files ≡ files =
     loaded_one t (files_of form) w.files files (subst (λ f. L f w.files) is_told w.loaded) (subst (λ f. L f files) is_told loaded) in
     elim w.saved [
-      | inl s ↦ inl (w.outcome, subst (λ bs. FilesDue form bs w.outcome) same w.due, is ∙ status_of told w.outcome s.1)
+      | inl s ↦ inl (
+          w.outcome,
+          subst (λ bs. FilesDue form bs w.outcome) same w.due,
+          is ∙ status_of told w.outcome s.1,
+          subst (λ (x : List ℕ). Appends before.held after.held x) (ap (λ (x : Outcome). x.text) s.1) put,
+          s.0,
+        )
       | inr s ↦ inr (inl (is ∙ status_of told _ s.3, s.2.counted))
     ]
-decided form old new before after status told t files is_told loaded (inr s) is =
+decided form old new before after status told t files is_told loaded (inr s) is put =
     let not : IsNotLoaded (Some t) old.faults new.faults (files_of form) s.name s.fail =
     subst (λ f. IsNotLoaded f old.faults new.faults (files_of form) s.name s.fail) is_told s.not_loaded in
     inr (inl (
@@ -450,7 +456,7 @@ completes : (form : Option Form) (old new : StoreState) (before after : SinkStat
 completes None old new before after status ends = tt
 completes (Some form) old new before after status (inl w) = λ t files is loaded. inr (inr (inr w.memory))
 completes (Some form) old new before after status (inr (told, tells, inl put)) =
-    λ t files is loaded. decided form old new before after status told t files is loaded tells put.0
+    λ t files is loaded. decided form old new before after status told t files is loaded tells put.0 put.1
 completes (Some form) old new before after status (inr (told, tells, inr (inl put))) =
     λ t files is loaded. inr (inr (inl (put.0, put.1)))
 completes (Some form) old new before after status (inr (told, tells, inr (inr put))) =

@@ -162,10 +162,12 @@ StoreCause (Some form) old new =
     × IsNotLoaded old.files old.faults new.faults (files_of form) name fail)
     ⊎ ((name : List ℕ) × NotSaved (out_of form) old new name)
 
--- the status says what a command comes to, if it isn't one of a fault of the outside or of want of memory
+-- the status says what a command comes to, with its text written and what it saves saved, if it isn't one of a fault
+-- of the outside or of want of memory
 abbrev pub IsDecided : Form → List (List ℕ) → StoreState → StoreState → SinkState → SinkState → Status → Type 0
 IsDecided form files old new before after status =
-    ((o : Outcome) × FilesDue form files o × (status ≡ o.status))
+    ((o : Outcome) × FilesDue form files o × (status ≡ o.status) × Appends before.held after.held o.text
+    × AreSaved (out_of form) o.saved old new)
     ⊎ (((status ≡ Store) × Rose old.faults new.faults)
     ⊎ (((status ≡ Sink) × Rose before.faults after.faults)
     ⊎ (status ≡ Memory)))

@@ -23,6 +23,12 @@ pub record HasRun (s : ScriptValue) (files : List Contents) (lanes : List (List 
   pub limit : t.limit ≡ s.limit
   pub transcript : IsTranscript (with_lanes s lanes) files (transcript_with t replies) t.journal
 
+-- the second device is the first with other entries
+pub record IsSameDevice (old new : TableValue) : Type 0 where
+  pub geometry : new.geometry ≡ old.geometry
+  pub slots : new.slots ≡ old.slots
+  pub limit : new.limit ≡ old.limit
+
 -- what was run before the lane with this number, and the lane after it, are run
 abbrev pub RunsLane : List Contents → ℕ → List Command → List ReplyValue → TableValue → TableValue → Type 0
 RunsLane files lane commands replies old new =

@@ -1,5 +1,5 @@
 -- What one command does to a device: it is answered, and makes an entry or none.
-use Rattle.std.specs.Prelude.{◌≡◌, ◌⊎◌, ℕ, ◌+◌, ◌≤◌, List, [], ◌∷◌, ◌++◌, length}
+use Rattle.std.specs.Prelude.{◌≡◌, ◌⊎◌, ℕ, ◌+◌, ◌<◌, ◌≤◌, List, [], ◌∷◌, ◌++◌, length}
 use Rattle.journal_defs.specs.Journals.{EntryValue}
 use Rattle.slot_core.specs.Values.{TableValue}
 use Rattle.script_defs.specs.declared.command.Command.{Command}
@@ -36,9 +36,10 @@ pub record AnswersAlone (files : List Contents) (from : ℕ) (command : Command)
   pub rises : before reply ≤ after reply
   pub within : after reply ≤ length t.journal
 
--- the command of this turn makes this entry after the journal of the device
+-- there is room in the journal, and the command of this turn makes this entry after it
 pub record Makes (files : List Contents) (at : Turn) (command : Command) (reply : ReplyValue) (t : TableValue) (e : EntryValue)
     : Type 0 where
+  pub room : length t.journal < t.limit
   pub lane : e.lane ≡ at.lane
   pub turn : e.turn ≡ at.number
   pub slot : slot_of command ≡ e.slot

@@ -1,6 +1,6 @@
 //! The device of a session: its slots with their journal, and the room for their answers.
 
-ghost use Rattle.std.specs.Prelude.{◌≡◌, ◌+◌, ◌<◌, [], length, IfOk, OnOk, Ok, ◌==◌};
+ghost use Rattle.std.specs.Prelude.{◌≡◌, ◌+◌, ◌<◌, ◌≤◌, [], length, IfOk, OnOk, Decides};
 ghost use Rattle.journal_defs.specs.Legality.{CanFollow};
 ghost use Rattle.slot_core.specs.Entries.{entry_value};
 ghost use Rattle.run_actors.specs.Steps.{with_entry};
@@ -49,7 +49,8 @@ impl Device {
 
     /// Whether the journal has as many entries as it may.
     pub(crate) fn is_full(&self) -> bool
-        ensures { result ≡ (length self.now.journal == self.now.limit) }
+        ensures full { Decides result (length self.now.journal ≡ self.now.limit) }
+        ensures short { length self.now.journal ≤ self.now.limit }
     {
         self.table.len() == self.table.limit()
     }

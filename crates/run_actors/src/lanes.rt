@@ -1,10 +1,10 @@
 //! The commands of a lane, one after another.
 
-ghost use Rattle.std.specs.Prelude.{◌≡◌, ◌<◌, ◌≤◌, length, map, All, IfOk};
+ghost use Rattle.std.specs.Prelude.{◌≡◌, ◌<◌, ◌≤◌, length, map, All, IfOk, OnOk};
 ghost use Rattle.run_script.specs.Replies.{reply_of};
 ghost use Rattle.run_actors.specs.Loading.{contents_of, CanRun};
 ghost use Rattle.run_actors.specs.Steps.{Answered};
-ghost use Rattle.run_actors.specs.Progress.{RunsLane};
+ghost use Rattle.run_actors.specs.Progress.{IsSameDevice, RunsLane};
 
 use crate::deliveries::deliver;
 use crate::device::Device;
@@ -31,7 +31,8 @@ fn run_command<R: Threads + Wait + Sync, G: Gate>(
     requires some_worker { 1 ≤ workers }
     requires workers { workers ≤ 64 }
     requires command { CanRun device.old.geometry device.old.slots (map contents_of files.now) command.now }
-    ensures { IfOk result (λ r. Answered (map contents_of files.now) (length device.old.journal) at command.now (reply_of r) device.old device.new) }
+    ensures device { OnOk result (IsSameDevice device.old device.new) }
+    ensures reply { IfOk result (λ r. Answered (map contents_of files.now) (length device.old.journal) at command.now (reply_of r) device.old device.new) }
 {
     match command {
         Command::Agree { slot, file } => {
@@ -64,7 +65,8 @@ pub(crate) fn run_lane<R: Threads + Wait + Sync, G: Gate>(
     requires workers { workers ≤ 64 }
     requires few { length commands.now ≤ 65536 }
     requires commands { All (CanRun device.old.geometry device.old.slots (map contents_of files.now)) commands.now }
-    ensures { IfOk result (λ replies. RunsLane (map contents_of files.now) lane commands.now (map reply_of replies) device.old device.new) }
+    ensures device { OnOk result (IsSameDevice device.old device.new) }
+    ensures replies { IfOk result (λ replies. RunsLane (map contents_of files.now) lane commands.now (map reply_of replies) device.old device.new) }
 {
     let mut replies = Items::new(alloc);
     for (number, command) in commands.iter().enumerate() {

@@ -19,5 +19,5 @@ mod running;
 mod tests;
 mod turn;
 
-pub use loaded::Loaded;
+pub use loaded::{Loaded, are_loaded};
 pub use running::run_in_order;

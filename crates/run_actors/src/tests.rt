@@ -48,6 +48,7 @@ fn lanes_run_one_after_another(rt: HostRuntime) -> Result<(), Fail> {
     let alloc = rt.alloc();
     let script = read_script(alloc, SCRIPT)?;
     let files = files(alloc)?;
+    assert!(rt; are_loaded(script.files.as_slice(), &files));
     let t = run_in_order(&rt, alloc, &script, &files, &OpenGate)?;
     let text = print_transcript(alloc, &t)?;
     assert_eq!(rt; text.as_slice(), PRINTED);

@@ -8,8 +8,9 @@ use Rattle.fabric_defs.specs.Configurations.{ConfigValue}
 use Rattle.miter_defs.specs.Equality.{Equal}
 use Rattle.verify_defs.specs.Acceptance.{Accepts, AcceptsWith}
 use Rattle.verify_defs.specs.Deliveries.{HasConfig}
-use Rattle.verify_defs.specs.Refusals.{FirstRefusal}
+use Rattle.verify_defs.specs.Refusals.{FirstRefusal, Refuses}
 use Rattle.verify_defs.specs.declared.refusal.Refusal.{Refusal}
+use Rattle.verify_defs.specs.declared.refusal.Refusal.TheVariants.{NoMemory}
 use Rattle.journal_defs.specs.Journals.{agreed as agreed_change, installed as installed_change, evicted as evicted_change, EntryValue, spec_at}
 use Rattle.journal_defs.specs.Replies as journal
 use Rattle.slot_core.specs.Values.{TableValue}
@@ -20,10 +21,11 @@ use Rattle.session_defs.specs.Files.{Contents, DescribesNet, IsDelivery}
 use Rattle.session_defs.specs.Points.{before, after}
 use Rattle.session_defs.specs.Replies.{IsAgreedAfter, Meets}
 use Rattle.run_actors.specs.declared.turn.Turn.{Turn}
+use Rattle.run_actors.specs.Progress.{IsSameDevice}
 use Rattle.run_actors.specs.Steps.{MakesNone, AnswersAlone, Makes, with_entry, Answered}
 
 -- all entries
-all-entries : (h : List EntryValue) (n : ℕ) → n ≡ length h → h ≡ take n h
+pub all-entries : (h : List EntryValue) (n : ℕ) → n ≡ length h → h ≡ take n h
 all-entries h n all = sym (take_all n h (omega (arith, all)))
 
 -- ---- no entry
@@ -69,6 +71,18 @@ deliver-refused files at slot file n why net bytes old new agrees delivered firs
     let met : spec_at (take n old.journal) slot ≡ Some net =
     subst (λ h. spec_at h slot ≡ Some net) (all-entries old.journal n now) agrees in
     inl (alone-now files (Deliver slot file) (refused why n) old tt now now (net, bytes, met, delivered, first), same)
+
+-- what a judge answers that refuses, where memory wasn't wanting
+pub deliver-refusal : (files : List Contents) (at : Turn) (slot file n : ℕ) (why : Refusal) (net : Network)
+    (bytes : List ℕ) (old new : TableValue)
+    → spec_at old.journal slot ≡ Some net → IsDelivery files file bytes → Refuses old.geometry net bytes why
+    → why ≢ NoMemory → n ≡ length old.journal → new ≡ old
+    → Answered files (length old.journal) at (Deliver slot file) (refused why n) old new
+deliver-refusal files at slot file n why net bytes old new agrees delivered refuses memory now same =
+    elim refuses [
+      | inl wanting ↦ absurd (memory wanting)
+      | inr first ↦ deliver-refused files at slot file n why net bytes old new agrees delivered first now same
+    ]
 
 -- a bundle that was accepted after `checked` entries, where another network is agreed
 pub deliver-stale : (files : List Contents) (at : Turn) (slot file checked n : ℕ) (net : Network) (bytes : List ℕ)
@@ -235,3 +249,11 @@ sweep-ones files slot first count counts outputs n d reply =
     alone-now files (Sweep slot first count) (ones counts outputs n) d tt reply.all_entries reply.all_entries
     (subst (λ h. journal.ReplyAt h (journal.sweep slot first count) (journal.ones counts outputs) n)
     (all-entries d.journal n reply.all_entries) reply)
+
+-- a command leaves the device what it is
+pub answered-same : (files : List Contents) (from : ℕ) (at : Turn) (c : Command) (r : ReplyValue) (old new : TableValue)
+    → Answered files from at c r old new → IsSameDevice old new
+answered-same files from at c r old new (inl alone) =
+    subst (IsSameDevice old) (sym alone.1) (record { geometry = refl; slots = refl; limit = refl })
+answered-same files from at c r old new (inr made_one) =
+    subst (IsSameDevice old) (sym made_one.2) (record { geometry = refl; slots = refl; limit = refl })

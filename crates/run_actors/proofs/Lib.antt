@@ -4,3 +4,4 @@ pub mod Growth
 pub mod Steps
 pub mod Files
 pub mod Answering
+pub mod Listing

@@ -1,7 +1,8 @@
 -- The commands and the replies of lanes, where the last lane has one element more.
-use Rattle.std.proofs.Common.{◌≡◌, ℕ, zero, suc, ◌+◌, ◌<◌, ◌⊎◌, inl, inr, List, [], ◌∷◌, ◌++◌, length, Some, refl, ap, arith}
+use Rattle.std.proofs.Common.{◌≡◌, ℕ, zero, suc, ◌+◌, ◌<◌, ◌⊎◌, inl, inr, List, [], ◌∷◌, ◌++◌, length, take, Some, refl, ap, ◌∙◌, add-one, arith}
 use Rattle.std.specs.List.{slice_get}
-use Rattle.std.proofs.lemmas.Option.{none-some, same_Some}
+use Rattle.std.proofs.Math.Seq.{take-suc}
+use Rattle.std.proofs.lemmas.Option.{none-some, same_Some, slice_get_within, get_or_from_slice_get}
 use Rattle.session_defs.specs.Meant.{at_turn, in_lane}
 
 -- ---- one list
@@ -26,6 +27,12 @@ slice_get-split [] y (suc i) x found = absurd (none-some x found)
 slice_get-split (z ∷ xs) y zero x found = inl found
 slice_get-split (z ∷ xs) y (suc i) x found =
     elim (slice_get-split xs y i x found) [ inl old ↦ inl old | inr new ↦ inr (ap suc new.0, new.1) ]
+
+-- the first elements and the next one
+pub take-next : {X : Type 0} (xs : List X) (i : ℕ) (x : X) → slice_get xs i ≡ Some x → take (i + 1) xs ≡ take i xs ++ x ∷ []
+take-next xs i x found =
+    ap (λ n. take n xs) (add-one i) ∙ take-suc xs i x (slice_get_within xs i x found)
+    ∙ ap (λ e. take i xs ++ e ∷ []) (get_or_from_slice_get xs i x x found)
 
 -- ---- lanes
 

@@ -47,6 +47,20 @@ impl Device {
         })
     }
 
+    /// The fabric of each slot.
+    pub(crate) fn geometry(&self) -> Geometry
+        ensures { result ≡ self.now.geometry }
+    {
+        self.table.geometry()
+    }
+
+    /// How many entries the journal has.
+    pub(crate) fn entries(&self) -> u32
+        ensures { result ≡ length self.now.journal }
+    {
+        self.table.len()
+    }
+
     /// Whether the journal has as many entries as it may.
     pub(crate) fn is_full(&self) -> bool
         ensures full { Decides result (length self.now.journal ≡ self.now.limit) }

@@ -4,8 +4,8 @@ ghost use Rattle.std.specs.Prelude.{◌≡◌, ℕ, ◌<◌, List, length};
 ghost use Rattle.miter_defs.specs.Equality.{FitsPads};
 ghost use Rattle.fabric_defs.specs.Geometries.{cell_count};
 ghost use Rattle.journal_defs.specs.Journals.{EntryValue};
-ghost use Rattle.journal_defs.specs.Replies.{Runs, cycle};
-ghost use Rattle.script_defs.specs.declared.command.Command.TheVariants.{Cycle, Sweep};
+ghost use Rattle.journal_defs.specs.Replies.{Runs, cycle as cycle_query};
+ghost use Rattle.script_defs.specs.declared.command.Command.TheVariants.{Cycle as CycleCommand, Sweep};
 ghost use Rattle.slot_core.specs.Cycles.{IsReplyTo};
 ghost use Rattle.slot_core.specs.Values.{TableValue};
 ghost use Rattle.session_defs.specs.Files.{Contents};
@@ -23,8 +23,8 @@ use slot_core::{Cycle, Table, answer};
 /// The reply of an answer to a cycle.
 fn cycle_reply(cycle: Cycle) -> Reply
     ensures { (files : List Contents) (t : TableValue) (slot probe : ℕ) (x : List ℕ)
-        → IsReplyTo t.journal (cycle slot x probe) cycle.entry
-        → AnswersAlone files (length t.journal) (Cycle slot x probe) (reply_of result) t }
+        → IsReplyTo t.journal (cycle_query slot x probe) cycle
+        → AnswersAlone files (length t.journal) (CycleCommand slot x probe) (reply_of result) t }
 {
     match cycle {
         Cycle::Out { outputs, probe, at } => Reply::Out { outputs, probe, at },
@@ -74,7 +74,7 @@ impl Device {
         requires probe { probe < cell_count self.old.geometry }
         ensures same { self.new ≡ self.old }
         ensures reply { (files : List Contents)
-            → AnswersAlone files (length self.old.journal) (Cycle slot bits probe) (reply_of result) self.old }
+            → AnswersAlone files (length self.old.journal) (CycleCommand slot bits probe) (reply_of result) self.old }
     {
         cycle_reply(answer(&self.table, slot, bits, probe, &mut self.wires))
     }

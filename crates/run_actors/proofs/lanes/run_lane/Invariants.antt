@@ -6,7 +6,7 @@ use Rattle.run_actors.proofs.lanes.run_lane.Given as goal
 
 -- the commands so far were run
 abbrev pub invariant-loop-number : goal.invariant-loop-number
-invariant-loop-number l = record {
-  device : IsSameDevice l.fn.device l.device;
+invariant-loop-number g l = record {
+  same : IsSameDevice l.fn.device l.device;
   runs : RunsLane (map contents_of l.files) l.lane (take l.number l.commands) (map reply_of l.replies) l.fn.device l.device;
 }

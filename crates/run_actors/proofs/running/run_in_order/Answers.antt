@@ -27,10 +27,12 @@ run_lane-requires-clause-commands g c =
     c.requires.script.commands)) in
     let all : All (CanRun s.geometry s.slots files) c.commands-item.result =
     all-can_run s.geometry s.slots s.files files c.requires.files c.commands-item.result here in
+    let can : All (CanRun c.loop-lane.device.geometry c.loop-lane.device.slots files) c.as_slice-commands.result.now =
     subst (λ cs. All (CanRun c.loop-lane.device.geometry c.loop-lane.device.slots files) cs) (sym c.as_slice-commands.ensures)
     (subst (λ n. All (CanRun c.loop-lane.device.geometry n files) c.commands-item.result) (sym c.loop-lane.invariant.slots)
     (subst (λ (f : GeometryValue). All (CanRun f s.slots files) c.commands-item.result)
-    (sym c.loop-lane.invariant.runs.geometry) all))
+    (sym c.loop-lane.invariant.runs.geometry) all)) in
+    λ _ _. can
 
 pub loop-lane-preserved : goal.loop-lane-preserved
 loop-lane-preserved g c =

@@ -13,14 +13,14 @@ use Rattle.script_defs.specs.declared.line.Line.{Line}
 use Rattle.script_defs.specs.Scripts.{ScriptValue}
 use Rattle.session_defs.specs.Files.{Contents, DescribesNet, IsDelivery}
 
--- the element of this number, counted from 0, of the list of this number; none where either isn't there
-abbrev pub at_turn : {X : Type 0} → List (List X) → ℕ → ℕ → Option X
-at_turn lanes lane turn = in_lane (slice_get lanes lane) turn
-
 -- the element of this number, counted from 0, where there is a list
 abbrev pub in_lane : {X : Type 0} → Option (List X) → ℕ → Option X
 in_lane None turn = None
 in_lane (Some lane) turn = slice_get lane turn
+
+-- the element of this number, counted from 0, of the list of this number; none where either isn't there
+abbrev pub at_turn : {X : Type 0} → List (List X) → ℕ → ℕ → Option X
+at_turn lanes lane turn = in_lane (slice_get lanes lane) turn
 
 -- the command of this turn of this lane
 abbrev pub IsCommandAt : ScriptValue → ℕ → ℕ → Command → Type 0

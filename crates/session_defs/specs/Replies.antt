@@ -8,7 +8,7 @@ use Rattle.journal_defs.specs.Journals.{EntryValue, spec_at}
 use Rattle.journal_defs.specs.Replies as journal
 use Rattle.script_defs.specs.declared.command.Command.{Command}
 use Rattle.script_defs.specs.declared.command.Command.TheVariants.{Agree, Deliver, Evict, Cycle, Sweep}
-use Rattle.script_defs.specs.Scripts.{ScriptValue}
+use Rattle.fabric_defs.specs.Geometries.{GeometryValue}
 use Rattle.script_defs.specs.Transcripts.{ReplyValue, agreed, installed, evicted, full, unagreed, refused, stale, out, vacant, width, ones}
 use Rattle.session_defs.specs.Files.{Contents, IsDelivery}
 
@@ -17,70 +17,70 @@ abbrev pub IsAgreedAfter : List EntryValue → ℕ → ℕ → Network → Type 
 IsAgreedAfter h at slot net = spec_at (take at h) slot ≡ Some net
 
 -- after so many entries a network is agreed for the slot for which the bundle in the file is accepted
-abbrev pub IsAcceptedAfter : ScriptValue → List Contents → List EntryValue → ℕ → ℕ → ℕ → Type 0
-IsAcceptedAfter s files h at slot file =
+abbrev pub IsAcceptedAfter : GeometryValue → List Contents → List EntryValue → ℕ → ℕ → ℕ → Type 0
+IsAcceptedAfter g files h at slot file =
     (net : Network) × (bytes : List ℕ)
-    × IsAgreedAfter h at slot net × IsDelivery files file bytes × Accepts s.geometry net bytes
+    × IsAgreedAfter h at slot net × IsDelivery files file bytes × Accepts g net bytes
 
 -- after so many entries a network is agreed for the slot for which this is why the bundle in the file is refused
-abbrev pub IsRefusedAfter : ScriptValue → List Contents → List EntryValue → ℕ → ℕ → ℕ → Refusal → Type 0
-IsRefusedAfter s files h at slot file why =
+abbrev pub IsRefusedAfter : GeometryValue → List Contents → List EntryValue → ℕ → ℕ → ℕ → Refusal → Type 0
+IsRefusedAfter g files h at slot file why =
     (net : Network) × (bytes : List ℕ)
-    × IsAgreedAfter h at slot net × IsDelivery files file bytes × FirstRefusal s.geometry net bytes why
+    × IsAgreedAfter h at slot net × IsDelivery files file bytes × FirstRefusal g net bytes why
 
 -- the bundle in the file is accepted for the network that was agreed after the first number of entries, and
 -- that network isn't the agreed one after the second number
-abbrev pub IsStale : ScriptValue → List Contents → List EntryValue → ℕ → ℕ → ℕ → ℕ → Type 0
-IsStale s files h checked at slot file =
+abbrev pub IsStale : GeometryValue → List Contents → List EntryValue → ℕ → ℕ → ℕ → ℕ → Type 0
+IsStale g files h checked at slot file =
     (net : Network) × (bytes : List ℕ)
-    × IsAgreedAfter h checked slot net × IsDelivery files file bytes × Accepts s.geometry net bytes
+    × IsAgreedAfter h checked slot net × IsDelivery files file bytes × Accepts g net bytes
     × (spec_at (take at h) slot ≢ Some net)
 
 -- this is what a slot answers to the query after so many entries
 abbrev pub IsAnswered : List EntryValue → journal.Query → journal.Answer → ℕ → Type 0
 IsAnswered h query answer at = journal.ReplyAt (take at h) query answer at
 
--- a reply to an agreement
-abbrev pub MeetsAgree : ScriptValue → ReplyValue → Type 0
-MeetsAgree s (agreed at) = Unit {0}
-MeetsAgree s (installed at) = ⊥
-MeetsAgree s (evicted at) = ⊥
-MeetsAgree s (full at) = at ≡ s.limit
-MeetsAgree s (unagreed at) = ⊥
-MeetsAgree s (refused why at) = ⊥
-MeetsAgree s (stale checked at) = ⊥
-MeetsAgree s (out y bit at) = ⊥
-MeetsAgree s (vacant at) = ⊥
-MeetsAgree s (width want at) = ⊥
-MeetsAgree s (ones counts outputs at) = ⊥
+-- a reply to an agreement, where the journal has no more entries than this limit
+abbrev pub MeetsAgree : ℕ → ReplyValue → Type 0
+MeetsAgree limit (agreed at) = Unit {0}
+MeetsAgree limit (installed at) = ⊥
+MeetsAgree limit (evicted at) = ⊥
+MeetsAgree limit (full at) = at ≡ limit
+MeetsAgree limit (unagreed at) = ⊥
+MeetsAgree limit (refused why at) = ⊥
+MeetsAgree limit (stale checked at) = ⊥
+MeetsAgree limit (out y bit at) = ⊥
+MeetsAgree limit (vacant at) = ⊥
+MeetsAgree limit (width want at) = ⊥
+MeetsAgree limit (ones counts outputs at) = ⊥
 
--- a reply to an eviction
-abbrev pub MeetsEvict : ScriptValue → ReplyValue → Type 0
-MeetsEvict s (agreed at) = ⊥
-MeetsEvict s (installed at) = ⊥
-MeetsEvict s (evicted at) = Unit {0}
-MeetsEvict s (full at) = at ≡ s.limit
-MeetsEvict s (unagreed at) = ⊥
-MeetsEvict s (refused why at) = ⊥
-MeetsEvict s (stale checked at) = ⊥
-MeetsEvict s (out y bit at) = ⊥
-MeetsEvict s (vacant at) = ⊥
-MeetsEvict s (width want at) = ⊥
-MeetsEvict s (ones counts outputs at) = ⊥
+-- a reply to an eviction, with the same limit
+abbrev pub MeetsEvict : ℕ → ReplyValue → Type 0
+MeetsEvict limit (agreed at) = ⊥
+MeetsEvict limit (installed at) = ⊥
+MeetsEvict limit (evicted at) = Unit {0}
+MeetsEvict limit (full at) = at ≡ limit
+MeetsEvict limit (unagreed at) = ⊥
+MeetsEvict limit (refused why at) = ⊥
+MeetsEvict limit (stale checked at) = ⊥
+MeetsEvict limit (out y bit at) = ⊥
+MeetsEvict limit (vacant at) = ⊥
+MeetsEvict limit (width want at) = ⊥
+MeetsEvict limit (ones counts outputs at) = ⊥
 
--- a reply to the delivery of the bundle in a file to a slot
-abbrev pub MeetsDeliver : ScriptValue → List Contents → List EntryValue → ℕ → ℕ → ReplyValue → Type 0
-MeetsDeliver s files h slot file (agreed at) = ⊥
-MeetsDeliver s files h slot file (installed at) = IsAcceptedAfter s files h (at - 1) slot file
-MeetsDeliver s files h slot file (evicted at) = ⊥
-MeetsDeliver s files h slot file (full at) = (at ≡ s.limit) × IsAcceptedAfter s files h at slot file
-MeetsDeliver s files h slot file (unagreed at) = spec_at (take at h) slot ≡ None
-MeetsDeliver s files h slot file (refused why at) = IsRefusedAfter s files h at slot file why
-MeetsDeliver s files h slot file (stale checked at) = IsStale s files h checked at slot file
-MeetsDeliver s files h slot file (out y bit at) = ⊥
-MeetsDeliver s files h slot file (vacant at) = ⊥
-MeetsDeliver s files h slot file (width want at) = ⊥
-MeetsDeliver s files h slot file (ones counts outputs at) = ⊥
+-- a reply to the delivery of the bundle in a file to a slot of this fabric, with the same limit
+abbrev pub MeetsDeliver : GeometryValue → ℕ → List Contents → List EntryValue → ℕ → ℕ → ReplyValue → Type 0
+MeetsDeliver g limit files h slot file (agreed at) = ⊥
+MeetsDeliver g limit files h slot file (installed at) = IsAcceptedAfter g files h (at - 1) slot file
+MeetsDeliver g limit files h slot file (evicted at) = ⊥
+MeetsDeliver g limit files h slot file (full at) = (at ≡ limit) × IsAcceptedAfter g files h at slot file
+MeetsDeliver g limit files h slot file (unagreed at) = spec_at (take at h) slot ≡ None
+MeetsDeliver g limit files h slot file (refused why at) = IsRefusedAfter g files h at slot file why
+MeetsDeliver g limit files h slot file (stale checked at) = IsStale g files h checked at slot file
+MeetsDeliver g limit files h slot file (out y bit at) = ⊥
+MeetsDeliver g limit files h slot file (vacant at) = ⊥
+MeetsDeliver g limit files h slot file (width want at) = ⊥
+MeetsDeliver g limit files h slot file (ones counts outputs at) = ⊥
 
 -- a reply to a cycle of a slot with these input bits, in which this cell is probed
 abbrev pub MeetsCycle : List EntryValue → ℕ → List ℕ → ℕ → ReplyValue → Type 0
@@ -111,10 +111,10 @@ MeetsSweep h slot first count (width want at) = ⊥
 MeetsSweep h slot first count (ones counts outputs at) =
     IsAnswered h (journal.sweep slot first count) (journal.ones counts outputs) at
 
--- the command may have this reply
-abbrev pub Meets : ScriptValue → List Contents → List EntryValue → Command → ReplyValue → Type 0
-Meets s files h (Agree slot file) reply = MeetsAgree s reply
-Meets s files h (Deliver slot file) reply = MeetsDeliver s files h slot file reply
-Meets s files h (Evict slot) reply = MeetsEvict s reply
-Meets s files h (Cycle slot bits probe) reply = MeetsCycle h slot bits probe reply
-Meets s files h (Sweep slot first count) reply = MeetsSweep h slot first count reply
+-- the command may have this reply, where each slot has this fabric and the journal this limit
+abbrev pub Meets : GeometryValue → ℕ → List Contents → List EntryValue → Command → ReplyValue → Type 0
+Meets g limit files h (Agree slot file) reply = MeetsAgree limit reply
+Meets g limit files h (Deliver slot file) reply = MeetsDeliver g limit files h slot file reply
+Meets g limit files h (Evict slot) reply = MeetsEvict limit reply
+Meets g limit files h (Cycle slot bits probe) reply = MeetsCycle h slot bits probe reply
+Meets g limit files h (Sweep slot first count) reply = MeetsSweep h slot first count reply

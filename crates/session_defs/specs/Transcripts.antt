@@ -68,7 +68,7 @@ pub record IsTranscript (s : ScriptValue) (files : List Contents) (t : Transcrip
   pub points : (lane : ℕ) (replies : List ReplyValue) → slice_get t.lanes lane ≡ Some replies
       → PointsRise (length t.journal) replies
   pub meets : (lane turn : ℕ) (command : Command) (reply : ReplyValue)
-      → IsCommandAt s lane turn command → IsReplyAt t lane turn reply → Meets s files h command reply
+      → IsCommandAt s lane turn command → IsReplyAt t lane turn reply → Meets s.geometry s.limit files h command reply
 
 -- the transcript is one of the script and its files
 abbrev pub TranscriptOf : ScriptValue → List Contents → TranscriptValue → Type 0

@@ -1,0 +1,11 @@
+use Rattle.std.proofs.Common.{length, subst}
+use Rattle.slot_core.specs.Values.{TableValue}
+use Rattle.script_defs.specs.declared.command.Command.TheVariants.{Sweep}
+use Rattle.run_script.specs.Replies.{reply_of}
+use Rattle.run_actors.specs.Steps.{AnswersAlone}
+use Rattle.run_actors.proofs.device.Device.sweep.Goals as goal
+
+pub returns-clause-reply : goal.returns-clause-reply
+returns-clause-reply c files =
+    subst (λ (t : TableValue). AnswersAlone files (length t.journal) (Sweep c.args.slot c.args.first c.args.count)
+    (reply_of c.sweep.result) t) c.self.view_is (c.sweep.ensures.reply files)

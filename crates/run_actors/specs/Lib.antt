@@ -1,0 +1,4 @@
+pub mod Loading
+pub mod Lines
+pub mod Steps
+pub mod Progress

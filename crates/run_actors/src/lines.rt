@@ -1,0 +1,33 @@
+//! The lines of a transcript that show a journal.
+
+ghost use Rattle.std.specs.Prelude.{◌≡◌, IfOk};
+ghost use Rattle.slot_core.specs.Entries.{entry_value};
+ghost use Rattle.run_actors.specs.Lines.{line_of, lines_of};
+
+use pch_base::NoMemory;
+use run_script::{EntryKind, Items, Line};
+use slot_core::{Entry, Table};
+use std::alloc::Global;
+
+/// The line of an entry.
+fn line_of(e: &Entry) -> Line
+    ensures { result ≡ line_of (entry_value e.now) }
+{
+    let (kind, lane, turn, slot) = match e {
+        Entry::Agreed { lane, turn, slot, .. } => (EntryKind::Agreed, *lane, *turn, *slot),
+        Entry::Installed { lane, turn, slot, .. } => (EntryKind::Installed, *lane, *turn, *slot),
+        Entry::Evicted { lane, turn, slot } => (EntryKind::Evicted, *lane, *turn, *slot),
+    };
+    Line { kind, lane, turn, slot }
+}
+
+/// The lines of a table's journal.
+pub(crate) fn lines_of(alloc: Global, table: &Table) -> Result<Items<Line>, NoMemory>
+    ensures { IfOk result (λ lines. lines ≡ lines_of table.now.journal) }
+{
+    let mut lines = Items::new(alloc);
+    for i in 0..table.len() {
+        lines.push(line_of(table.entry(i + 1)))?;
+    }
+    Ok(lines)
+}

@@ -1,0 +1,3 @@
+pub mod Places
+pub mod Meanings
+pub mod Legality

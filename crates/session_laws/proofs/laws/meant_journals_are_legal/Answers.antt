@@ -1,0 +1,5 @@
+use Rattle.session_laws.proofs.Legality.{meant-legal}
+use Rattle.session_laws.proofs.laws.meant_journals_are_legal.Goals as goal
+
+pub returns : goal.returns
+returns c = meant-legal

@@ -15,8 +15,8 @@ ghost use Rattle.pch_shell.specs.Runs.{StoreState, SinkState, Runs};
 ghost use Rattle.pch_shell.specs.declared.status.Status.{Status};
 ghost use Rattle.outcome_laws.specs.Telling.{AreToldAlike, SavesOneThing, EndsAs, IsAnsweredBy};
 
-/// The bytes of a command's files come to one status and one text that is due. They come to one thing to
-/// save as well, if any, but for `place`: it may save any configuration that places the design.
+/// The bytes of a command's files come to one status and one text that is due. They come to one thing
+/// to save as well, if any, but for `place`: it may save any configuration that places the design.
 pub fn files_have_one_outcome()
     ensures told { (form : Form) (files : List (List ℕ)) (o p : Outcome)
         → FilesDue form files o → FilesDue form files p → AreToldAlike o p }
@@ -24,19 +24,20 @@ pub fn files_have_one_outcome()
         → FilesDue form files o → FilesDue form files p → o.saved ≡ p.saved }
 {}
 
-/// Where the told files of a command are there within their limits, a run ends with the status and the
-/// text that are due for their bytes, unless a fault of the outside was counted or memory was wanting.
-/// So a bundle that is accepted is never refused, and a trace that refutes a formula is never either.
+/// Where the told files of a command are there within their limits, a run ends with the status and
+/// the text that are due for their bytes, unless a fault of the outside was counted or memory was
+/// wanting. So an accepted bundle is never refused, and neither is a trace that refutes its formula.
 pub fn bytes_decide_the_run()
-    ensures { (words : List (List ℕ)) (form : Form) (old new : StoreState) (before after : SinkState)
-        (status : Status) (told : Files) (files : List (List ℕ)) (o : Outcome)
+    ensures { (words : List (List ℕ)) (form : Form) (old new : StoreState)
+        (before after : SinkState) (status : Status) (told : Files) (files : List (List ℕ))
+        (o : Outcome)
         → Runs words old new before after status → form_of words ≡ Some form
         → old.files ≡ Some told → AreLoaded old.files (files_of form) files
         → FilesDue form files o → EndsAs o old new before after status }
 {}
 
-/// What `place` comes to for the bytes of a design that is a network: status 0 where no resource is over,
-/// and else status 7 with the line of the first that is.
+/// What `place` comes to for the bytes of a design that is a network: status 0 where no resource is
+/// over, and else status 7 with the line of the first that is.
 pub fn demands_decide_place()
     ensures { (name : List ℕ) (g : GeometryValue) (design : List ℕ) (net : Network)
         (over : Option Demand) (o : Outcome) → HasNetwork design net → FirstOver net g over

@@ -155,14 +155,7 @@ fn place_command<'a>(
     let [r, t, i, o, out] = words else {
         return None;
     };
-    let geometry = fabric_of(
-        kind,
-        c,
-        r.as_str(),
-        t.as_str(),
-        i.as_str(),
-        o.as_str(),
-    );
+    let geometry = fabric_of(kind, c, r.as_str(), t.as_str(), i.as_str(), o.as_str());
     place_of(design, geometry, out.as_str())
 }
 

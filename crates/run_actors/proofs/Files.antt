@@ -25,7 +25,6 @@ loaded-at : (uses : List FileUse) (files : List Contents) (file : ℕ) (u : File
 loaded-at uses files file u o is found =
     subst (λ p. MatchOption p (Unit {0}) (λ v. IsSomeAnd (slice_get files file) (IsOfKind v.kind))) is found
 
-
 is_spec : (files : List Contents) (file : ℕ) (o : Option Contents) → slice_get files file ≡ o
     → IsSomeAnd o (IsOfKind SpecFile) → IsSpec files file
 is_spec files file None is found = absurd found

@@ -219,12 +219,11 @@ accepted-made s files ls cs c rs r reply at d e journal count next makes a = rec
             made-same_number (kind_of e.change) kind (length d.journal + 1) number same in
             let is_kind : kind_of e.change ≡ kind =
             made-same_kind (kind_of e.change) kind (length d.journal + 1) number same in
-            let is_place : length journal ≡ number - 1 = omega (arith, count, is_number) in
-            (
+            let is_place : length journal ≡ number - 1 = omega (arith, count, is_number) in (
               line_of e,
               omega (arith, is_number),
               subst (λ n. slice_get (journal ++ line_of e ∷ []) n ≡ Some (line_of e)) is_place
-              (slice_get-last journal (line_of e)),
+                  (slice_get-last journal (line_of e)),
               record {
                 kind_is = is_kind;
                 lane_is = makes.lane ∙ sym next.replies ∙ sym new.0;

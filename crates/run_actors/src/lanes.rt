@@ -40,7 +40,9 @@ fn run_command<R: Threads + Wait + Sync, G: Gate>(
             gate.locked(rt, at.lane, at.number);
             device.agree(at, *slot, net)
         }
-        Command::Deliver { slot, file } => deliver(rt, alloc, gate, device, files, workers, at, *slot, *file),
+        Command::Deliver { slot, file } => deliver(
+            rt, alloc, gate, device, files, workers, at, *slot, *file,
+        ),
         Command::Evict { slot } => {
             gate.locked(rt, at.lane, at.number);
             device.evict(at, *slot)
@@ -70,7 +72,10 @@ pub(crate) fn run_lane<R: Threads + Wait + Sync, G: Gate>(
 {
     let mut replies = Items::new(alloc);
     for (number, command) in commands.iter().enumerate() {
-        let at = Turn { lane, number: number as u32 };
+        let at = Turn {
+            lane,
+            number: number as u32,
+        };
         gate.pass(rt, at.lane, at.number);
         replies.push(run_command(rt, alloc, gate, device, files, workers, at, command)?)?;
     }

@@ -40,7 +40,16 @@ pub fn run_in_order<R: Threads + Wait + Sync, G: Gate>(
     let mut lanes = Items::new(alloc);
     for (lane, commands) in s.lanes.as_slice().iter().enumerate() {
         let commands = commands.as_slice();
-        let replies = run_lane(rt, alloc, gate, &mut device, files, s.workers, lane as u32, commands)?;
+        let replies = run_lane(
+            rt,
+            alloc,
+            gate,
+            &mut device,
+            files,
+            s.workers,
+            lane as u32,
+            commands,
+        )?;
         lanes.push(replies)?;
     }
     Ok(Transcript {

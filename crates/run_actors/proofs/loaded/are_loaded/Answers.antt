@@ -12,14 +12,17 @@ pub returns-then-uses-files : goal.returns-then-uses-files
 returns-then-uses-files c = (
   λ wrong. grind (arith, wrong),
   λ loaded.
-      absurd (omega (arith, c.if-uses-files.true, length-map c.args.files.now contents_of,
-      AllZip-long (λ (u : FileUse) d. IsOfKind u.kind d) c.args.uses.now (map contents_of c.args.files.now) loaded)),
+      absurd (omega (
+        arith,
+        c.if-uses-files.true,
+        length-map c.args.files.now contents_of,
+        AllZip-long (λ (u : FileUse) d. IsOfKind u.kind d) c.args.uses.now (map contents_of c.args.files.now) loaded,
+      )),
 )
 
 pub returns-then-not-is_of_kind : goal.returns-then-not-is_of_kind
 returns-then-not-is_of_kind c =
-    let in_files : c.loop-i.i < length c.args.files.now = omega (arith, c.loop-i-test.true, c.if-uses-files.false) in
-    (
+    let in_files : c.loop-i.i < length c.args.files.now = omega (arith, c.loop-i-test.true, c.if-uses-files.false) in (
       λ wrong. grind (arith, wrong),
       λ loaded.
           sym c.if-not-is_of_kind.true

@@ -1,6 +1,7 @@
 //! The commands of a lane, one after another.
 
 ghost use Rattle.std.specs.Prelude.{◌≡◌, ◌<◌, ◌≤◌, length, map, All, IfOk, OnOk};
+ghost use Rattle.script_defs.specs.Transcripts.{IsPrintable};
 ghost use Rattle.run_script.specs.Replies.{reply_of};
 ghost use Rattle.run_actors.specs.Loading.{contents_of, CanRun};
 ghost use Rattle.run_actors.specs.Steps.{Answered};
@@ -67,6 +68,7 @@ pub(crate) fn run_lane<R: Threads + Wait + Sync, G: Gate>(
     requires workers { workers ≤ 64 }
     requires few { length commands.now ≤ 65536 }
     requires commands { All (CanRun device.old.geometry device.old.slots (map contents_of files.now)) commands.now }
+    ensures printable { IfOk result (λ replies. All IsPrintable (map reply_of replies)) }
     ensures device { OnOk result (IsSameDevice device.old device.new) }
     ensures replies { IfOk result (λ replies. RunsLane (map contents_of files.now) lane commands.now (map reply_of replies) device.old device.new) }
 {

@@ -1,4 +1,4 @@
-use Rattle.std.proofs.Common.{rules, ◌≡◌, ◌<◌, ◌≤◌, ℕ, Bool, true, false, ◌↔◌, length, Some, refl, sym, ap, ◌∙◌, arith}
+use Rattle.std.proofs.Common.{rules, ◌≡◌, ◌<◌, ◌≤◌, ℕ, Bool, false, length, Some, refl, ap, ◌∙◌, arith}
 use Rattle.std.specs.Bool.{IsTrue, Decides}
 use Rattle.journal_defs.specs.Journals.{spec_at}
 use Rattle.run_actors.proofs.Answering.{deliver-made}

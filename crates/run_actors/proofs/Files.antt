@@ -1,5 +1,5 @@
 -- The files that a command names are loaded.
-use Rattle.std.proofs.Common.{◌≡◌, ◌≢◌, ℕ, zero, suc, ◌+◌, ◌<◌, ◌≤◌, List, [], ◌∷◌, ◌++◌, length, map, take, All, Option, None, Some, refl, sym, ap, subst, ◌∙◌}
+use Rattle.std.proofs.Common.{◌≡◌, ℕ, ◌+◌, ◌≤◌, List, [], ◌∷◌, ◌++◌, length, map, take, All, Option, None, Some, refl, sym, ap, subst, ◌∙◌}
 use Rattle.std.specs.List.{slice_get, AllZip}
 use Rattle.std.specs.Option.{MatchOption, IsSomeAnd, option_map}
 use Rattle.std.proofs.lemmas.List.{map-append, take_all}
@@ -24,7 +24,6 @@ loaded-at : (uses : List FileUse) (files : List Contents) (file : ℕ) (u : File
     → IsSomeAnd (slice_get files file) (IsOfKind u.kind)
 loaded-at uses files file u o is found =
     subst (λ p. MatchOption p (Unit {0}) (λ v. IsSomeAnd (slice_get files file) (IsOfKind v.kind))) is found
-
 
 is_spec : (files : List Contents) (file : ℕ) (o : Option Contents) → slice_get files file ≡ o
     → IsSomeAnd o (IsOfKind SpecFile) → IsSpec files file

@@ -1,19 +1,16 @@
 -- A transcript with one more command: what stood in it stays right.
-use Rattle.std.proofs.Common.{◌≡◌, ℕ, zero, suc, ◌+◌, ◌-◌, ◌<◌, ◌≤◌, ◌⊎◌, inl, inr, List, [], ◌∷◌, ◌++◌, length, take, Some, refl, sym, ap, subst, ◌∙◌, arith}
+use Rattle.std.proofs.Common.{◌≡◌, ℕ, zero, suc, ◌+◌, ◌≤◌, inl, inr, List, [], ◌∷◌, ◌++◌, length, take, Some, refl, sym, ap, subst, ◌∙◌, arith}
 use Rattle.std.specs.List.{slice_get}
-use Rattle.std.proofs.Math.Seq.{take-append_seam}
 use Rattle.std.proofs.lemmas.List.{length-append, take-append-le}
-use Rattle.std.proofs.lemmas.Option.{none-some, same_Some, slice_get_within}
+use Rattle.std.proofs.lemmas.Option.{none-some, slice_get_within}
 use Rattle.journal_defs.specs.Journals.{EntryValue}
 use Rattle.script_defs.specs.declared.command.Command.{Command}
 use Rattle.script_defs.specs.Scripts.{ScriptValue}
-use Rattle.script_defs.specs.Transcripts.{ReplyValue, TranscriptValue}
+use Rattle.script_defs.specs.Transcripts.{ReplyValue}
 use Rattle.session_defs.specs.Files.{Contents}
 use Rattle.session_defs.specs.Meant.{at_turn}
 use Rattle.session_defs.specs.Points.{before, after, PointsRise}
 use Rattle.session_defs.specs.Replies.{Meets}
-use Rattle.session_defs.specs.Transcripts.{HasReplies, IsReplyAt}
-use Rattle.run_actors.specs.Progress.{with_lanes}
 use Rattle.run_actors.proofs.Turns.{slice_get-longer, slice_get-last, slice_get-split, at_turn-split, at_turn-free}
 use Rattle.run_actors.proofs.Replies.{meets-later}
 

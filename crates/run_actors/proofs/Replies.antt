@@ -1,5 +1,5 @@
 -- Replies stay right where more entries come.
-use Rattle.std.proofs.Common.{◌≡◌, ℕ, ◌-◌, ◌≤◌, List, take, length, None, Some, refl, sym, ap, subst, ◌∙◌}
+use Rattle.std.proofs.Common.{◌≡◌, ℕ, ◌-◌, List, take, None, Some, refl, sym, ap, subst, ◌∙◌}
 use Rattle.net_defs.specs.Networks.{Network}
 use Rattle.fabric_defs.specs.Geometries.{GeometryValue}
 use Rattle.verify_defs.specs.Acceptance.{Accepts}

@@ -1,5 +1,5 @@
 -- A transcript with one more command is a transcript.
-use Rattle.std.proofs.Common.{◌≡◌, ℕ, ◌+◌, ◌-◌, ◌<◌, ◌≤◌, ◌⊎◌, inl, inr, List, [], ◌∷◌, ◌++◌, length, map, take, Some, refl, sym, ap, subst, ◌∙◌, arith}
+use Rattle.std.proofs.Common.{◌≡◌, ℕ, ◌+◌, ◌-◌, ◌<◌, inl, inr, List, [], ◌∷◌, ◌++◌, length, take, Some, refl, sym, ap, subst, ◌∙◌, arith}
 use Rattle.std.specs.List.{slice_get}
 use Rattle.std.proofs.Math.Seq.{take-append_seam}
 use Rattle.std.proofs.lemmas.List.{length-append, length-map, take-append-le, map-append}
@@ -7,22 +7,21 @@ use Rattle.std.proofs.lemmas.Option.{none-some, slice_get_within}
 use Rattle.journal_defs.specs.Journals.{EntryValue}
 use Rattle.slot_core.specs.Values.{TableValue}
 use Rattle.script_defs.specs.declared.command.Command.{Command}
-use Rattle.script_defs.specs.declared.line.EntryKind.{EntryKind}
 use Rattle.script_defs.specs.declared.line.Line.{Line}
 use Rattle.script_defs.specs.Scripts.{ScriptValue}
-use Rattle.script_defs.specs.Transcripts.{ReplyValue, TranscriptValue}
+use Rattle.script_defs.specs.Transcripts.{ReplyValue}
 use Rattle.session_defs.specs.Files.{Contents}
 use Rattle.session_defs.specs.Meant.{at_turn, IsCommandAt, MeansEntry, Meant}
-use Rattle.session_defs.specs.Points.{before, after, PointsRise}
+use Rattle.session_defs.specs.Points.{before, after}
 use Rattle.session_defs.specs.Replies.{Meets}
-use Rattle.session_defs.specs.Transcripts.{made, slot_of, HasReplies, IsReplyAt, ComesFromCommand, IsLineOf, HasAccepted, IsTranscript}
+use Rattle.session_defs.specs.Transcripts.{made, ComesFromCommand, HasAccepted, IsTranscript}
 use Rattle.run_actors.specs.declared.turn.Turn.{Turn}
 use Rattle.run_actors.specs.Lines.{kind_of, line_of, lines_of}
 use Rattle.run_actors.specs.Steps.{AnswersAlone, Makes, with_entry, Answered}
 use Rattle.run_actors.specs.Progress.{with_lanes, transcript_with, HasRun}
 use Rattle.run_actors.proofs.Turns.{slice_get-longer, slice_get-last, slice_get-split, at_turn-longer, at_turn-last, at_turn-split, at_turn-empty, at_turn-kept}
 use Rattle.run_actors.proofs.Replies.{after-made, before-made, made-same_kind, made-same_number, makes_none}
-use Rattle.run_actors.proofs.Growth.{SameShape, shape-lanes, shape-last, shape-lane, shape-command, AllRise, rise-command, rise-lane, Extends, extends-same, extends-more, AllMeet, meet-command}
+use Rattle.run_actors.proofs.Growth.{SameShape, shape-lanes, shape-last, shape-lane, shape-command, AllRise, rise-command, rise-lane, extends-same, extends-more, meet-command}
 
 -- ---- more lanes and replies, and the same entries
 
@@ -219,12 +218,11 @@ accepted-made s files ls cs c rs r reply at d e journal count next makes a = rec
             made-same_number (kind_of e.change) kind (length d.journal + 1) number same in
             let is_kind : kind_of e.change ≡ kind =
             made-same_kind (kind_of e.change) kind (length d.journal + 1) number same in
-            let is_place : length journal ≡ number - 1 = omega (arith, count, is_number) in
-            (
+            let is_place : length journal ≡ number - 1 = omega (arith, count, is_number) in (
               line_of e,
               omega (arith, is_number),
               subst (λ n. slice_get (journal ++ line_of e ∷ []) n ≡ Some (line_of e)) is_place
-              (slice_get-last journal (line_of e)),
+                  (slice_get-last journal (line_of e)),
               record {
                 kind_is = is_kind;
                 lane_is = makes.lane ∙ sym next.replies ∙ sym new.0;

@@ -3,7 +3,7 @@ use Rattle.std.specs.Prelude.{◌≡◌, ◌⊎◌, ℕ, ◌+◌, ◌<◌, ◌�
 use Rattle.journal_defs.specs.Journals.{EntryValue}
 use Rattle.slot_core.specs.Values.{TableValue}
 use Rattle.script_defs.specs.declared.command.Command.{Command}
-use Rattle.script_defs.specs.Transcripts.{ReplyValue, agreed, installed, evicted, full, unagreed, refused, stale, out, vacant, width, ones}
+use Rattle.script_defs.specs.Transcripts.{ReplyValue, agreed, installed, evicted, full, unagreed, refused, stale, out, vacant, width, ones, IsPrintable}
 use Rattle.session_defs.specs.Files.{Contents}
 use Rattle.session_defs.specs.Meant.{MeansChange}
 use Rattle.session_defs.specs.Points.{before, after}
@@ -26,11 +26,12 @@ MakesNone (vacant at) = Unit {0}
 MakesNone (width want at) = Unit {0}
 MakesNone (ones counts outputs at) = Unit {0}
 
--- a command that began to be answered after so many entries may have this reply after the journal of the device,
--- and makes no entry
+-- a command that began to be answered after so many entries may have this reply, which has a text, after the
+-- journal of the device, and makes no entry
 pub record AnswersAlone (files : List Contents) (from : ℕ) (command : Command) (reply : ReplyValue) (t : TableValue)
     : Type 0 where
   pub no_entry : MakesNone reply
+  pub printable : IsPrintable reply
   pub meets : Meets t.geometry t.limit files t.journal command reply
   pub begins : from ≤ before reply
   pub rises : before reply ≤ after reply

@@ -29,7 +29,9 @@ impl Device {
             → Answered files (length self.old.journal) at (Agree slot file) (reply_of r) self.old self.new) }
     {
         if self.is_full() {
-            return Ok(Reply::Full { at: self.table.len() });
+            return Ok(Reply::Full {
+                at: self.table.len(),
+            });
         }
         let entry = Entry::Agreed {
             lane: at.lane,
@@ -37,7 +39,9 @@ impl Device {
             slot,
             net: net.clone()?,
         };
-        Ok(Reply::Agreed { at: self.append(&entry)? })
+        Ok(Reply::Agreed {
+            at: self.append(&entry)?,
+        })
     }
 
     /// Takes what runs out of the slot.
@@ -47,14 +51,18 @@ impl Device {
             → Answered files (length self.old.journal) at (Evict slot) (reply_of r) self.old self.new) }
     {
         if self.is_full() {
-            return Ok(Reply::Full { at: self.table.len() });
+            return Ok(Reply::Full {
+                at: self.table.len(),
+            });
         }
         let entry = Entry::Evicted {
             lane: at.lane,
             turn: at.number,
             slot,
         };
-        Ok(Reply::Evicted { at: self.append(&entry)? })
+        Ok(Reply::Evicted {
+            at: self.append(&entry)?,
+        })
     }
 
     /// The agreed net of the slot, where there is one.
@@ -98,10 +106,15 @@ impl Device {
             → Answered files checked at (Deliver slot file) (reply_of r) self.old self.new) }
     {
         if !self.is_agreed(slot, accepted.net()) {
-            return Ok(Reply::Stale { checked, at: self.table.len() });
+            return Ok(Reply::Stale {
+                checked,
+                at: self.table.len(),
+            });
         }
         if self.is_full() {
-            return Ok(Reply::Full { at: self.table.len() });
+            return Ok(Reply::Full {
+                at: self.table.len(),
+            });
         }
         let (net, config) = accepted.into_parts();
         let entry = Entry::Installed {
@@ -111,6 +124,8 @@ impl Device {
             net,
             config,
         };
-        Ok(Reply::Installed { at: self.append(&entry)? })
+        Ok(Reply::Installed {
+            at: self.append(&entry)?,
+        })
     }
 }

@@ -36,7 +36,12 @@ impl Model for Device {
 
 impl Device {
     /// A device without entries.
-    pub(crate) fn new(alloc: Global, g: Geometry, slots: u32, limit: u32) -> Result<Device, NoMemory>
+    pub(crate) fn new(
+        alloc: Global,
+        g: Geometry,
+        slots: u32,
+        limit: u32,
+    ) -> Result<Device, NoMemory>
         ensures { IfOk result (λ d. d
             ≡ record { geometry = g; slots = slots; limit = limit; journal = [] }) }
     {

@@ -1,6 +1,7 @@
 //! The commands of a lane, one after another.
 
 ghost use Rattle.std.specs.Prelude.{◌≡◌, ◌<◌, ◌≤◌, length, map, All, IfOk, OnOk};
+ghost use Rattle.script_defs.specs.Transcripts.{IsPrintable};
 ghost use Rattle.run_script.specs.Replies.{reply_of};
 ghost use Rattle.run_actors.specs.Loading.{contents_of, CanRun};
 ghost use Rattle.run_actors.specs.Steps.{Answered};
@@ -40,7 +41,9 @@ fn run_command<R: Threads + Wait + Sync, G: Gate>(
             gate.locked(rt, at.lane, at.number);
             device.agree(at, *slot, net)
         }
-        Command::Deliver { slot, file } => deliver(rt, alloc, gate, device, files, workers, at, *slot, *file),
+        Command::Deliver { slot, file } => deliver(
+            rt, alloc, gate, device, files, workers, at, *slot, *file,
+        ),
         Command::Evict { slot } => {
             gate.locked(rt, at.lane, at.number);
             device.evict(at, *slot)
@@ -65,12 +68,16 @@ pub(crate) fn run_lane<R: Threads + Wait + Sync, G: Gate>(
     requires workers { workers ≤ 64 }
     requires few { length commands.now ≤ 65536 }
     requires commands { All (CanRun device.old.geometry device.old.slots (map contents_of files.now)) commands.now }
+    ensures printable { IfOk result (λ replies. All IsPrintable (map reply_of replies)) }
     ensures device { OnOk result (IsSameDevice device.old device.new) }
     ensures replies { IfOk result (λ replies. RunsLane (map contents_of files.now) lane commands.now (map reply_of replies) device.old device.new) }
 {
     let mut replies = Items::new(alloc);
     for (number, command) in commands.iter().enumerate() {
-        let at = Turn { lane, number: number as u32 };
+        let at = Turn {
+            lane,
+            number: number as u32,
+        };
         gate.pass(rt, at.lane, at.number);
         replies.push(run_command(rt, alloc, gate, device, files, workers, at, command)?)?;
     }

@@ -14,11 +14,26 @@ fn line_of(e: &Entry) -> Line
     ensures { result ≡ line_of (entry_value e.now) }
 {
     let (kind, lane, turn, slot) = match e {
-        Entry::Agreed { lane, turn, slot, .. } => (EntryKind::Agreed, *lane, *turn, *slot),
-        Entry::Installed { lane, turn, slot, .. } => (EntryKind::Installed, *lane, *turn, *slot),
+        Entry::Agreed {
+            lane,
+            turn,
+            slot,
+            ..
+        } => (EntryKind::Agreed, *lane, *turn, *slot),
+        Entry::Installed {
+            lane,
+            turn,
+            slot,
+            ..
+        } => (EntryKind::Installed, *lane, *turn, *slot),
         Entry::Evicted { lane, turn, slot } => (EntryKind::Evicted, *lane, *turn, *slot),
     };
-    Line { kind, lane, turn, slot }
+    Line {
+        kind,
+        lane,
+        turn,
+        slot,
+    }
 }
 
 /// The lines of a table's journal.

@@ -43,7 +43,11 @@ fn ones_of(net: &Net, config: &Config, first: u64, count: u32, at: u32, w: &mut 
         → AnswersAlone files (length t.journal) (Sweep slot first count) (reply_of result) t }
 {
     let counts = count_ones(config, net.inputs(), first, count, w);
-    Reply::Ones { counts, outputs: net.outputs(), at }
+    Reply::Ones {
+        counts,
+        outputs: net.outputs(),
+        at,
+    }
 }
 
 /// How many of the `count` values from `first` on make each output of the slot one. Takes no memory;

@@ -1,12 +1,11 @@
 -- The journal that a transcript means is legal.
-use Rattle.std.proofs.Common.{◌≡◌, ℕ, ◌+◌, ◌-◌, ◌<◌, List, length, take, All, Some, refl, sym, ap, subst, ◌∙◌, arith}
+use Rattle.std.proofs.Common.{◌≡◌, ℕ, ◌+◌, ◌<◌, List, take, Some, sym, subst, ◌∙◌, arith}
 use Rattle.std.specs.List.{slice_get}
-use Rattle.std.proofs.lemmas.Option.{same_Some}
 use Rattle.net_defs.specs.Networks.{Network}
 use Rattle.net_defs.specs.Nets.{IsNet}
 use Rattle.net_defs.specs.Evaluation.{SpecOut}
 use Rattle.fabric_defs.specs.Geometries.{GeometryValue}
-use Rattle.journal_defs.specs.Journals.{Change, agreed, installed, evicted, EntryValue, spec_at}
+use Rattle.journal_defs.specs.Journals.{Change, EntryValue, spec_at}
 use Rattle.journal_defs.specs.Legality.{CanChange, CanFollow, Legal}
 use Rattle.journal_defs.specs.Replies as journal
 use Rattle.journal_defs.proofs.LegalityLemmas.{legal-take, outputs-agreed}
@@ -16,11 +15,11 @@ use Rattle.script_defs.specs.declared.line.EntryKind.{EntryKind}
 use Rattle.script_defs.specs.declared.line.EntryKind.TheVariants.{Agreed, Installed, Evicted}
 use Rattle.script_defs.specs.declared.line.Line.{Line}
 use Rattle.script_defs.specs.Scripts.{ScriptValue, IsCommand, IsScript}
-use Rattle.script_defs.specs.Transcripts.{ReplyValue, TranscriptValue, out}
+use Rattle.script_defs.specs.Transcripts.{TranscriptValue, out}
 use Rattle.session_defs.specs.Files.{Contents}
-use Rattle.session_defs.specs.Meant.{IsCommandAt, MeansChange, MeansEntry, Meant}
+use Rattle.session_defs.specs.Meant.{IsCommandAt, MeansChange, MeansEntry}
 use Rattle.session_defs.specs.Replies.{Meets}
-use Rattle.session_defs.specs.Transcripts.{slot_of, made, IsReplyAt, ComesFromCommand, IsTranscript}
+use Rattle.session_defs.specs.Transcripts.{made, IsReplyAt, ComesFromCommand, IsTranscript}
 use Rattle.session_laws.specs.Nets.{DescribeNets}
 use Rattle.session_laws.proofs.Places.{all-places, turn-all, place-same}
 use Rattle.session_laws.proofs.Meanings.{agreed-is_net, installed-follows, slot-within}
@@ -93,6 +92,9 @@ outputs-agree s files t h lane turn slot probe bit at x y script nets transcript
     legal-take s.geometry s.slots s.limit at h (meant-legal s files t h script nets transcript) in
     let is_net : IsNet given.0 = agreed-is_net s files t.journal h at slot given.0 nets transcript.meant given.2.spec in
     let is : IsCommand s.geometry s.slots s.files (Cycle slot x probe) =
-    turn-all (IsCommand s.geometry s.slots s.files) s.lanes lane turn (Cycle slot x probe) script.commands commanded in
-    (given.0, given.2.spec, outputs-agreed s.geometry s.slots s.limit slot probe bit (take at h) x y given.0 legal given
-    given.2.spec is_net.acyclic is.1)
+    turn-all (IsCommand s.geometry s.slots s.files) s.lanes lane turn (Cycle slot x probe) script.commands commanded in (
+      given.0,
+      given.2.spec,
+      outputs-agreed s.geometry s.slots s.limit slot probe bit (take at h) x y given.0 legal given
+          given.2.spec is_net.acyclic is.1,
+    )

@@ -1,17 +1,15 @@
 -- What the entries of a transcript's journal are.
-use Rattle.std.proofs.Common.{◌≡◌, ◌≢◌, ℕ, ◌+◌, ◌-◌, ◌<◌, List, [], length, take, All, Option, None, Some, refl, sym, ap, subst, ◌∙◌, arith}
-use Rattle.std.specs.List.{slice_get}
+use Rattle.std.proofs.Common.{◌≡◌, ℕ, ◌+◌, ◌-◌, ◌<◌, List, [], take, Some, sym, ap, subst, ◌∙◌, arith}
 use Rattle.std.proofs.lemmas.Option.{none-some, same_Some}
 use Rattle.net_defs.specs.Networks.{Network}
 use Rattle.net_defs.specs.Nets.{IsNet}
 use Rattle.fabric_defs.specs.Geometries.{GeometryValue}
 use Rattle.fabric_defs.specs.Configurations.{ConfigValue}
-use Rattle.miter_defs.specs.Equality.{Equal}
 use Rattle.bundle_defs.specs.Bundles.{BundleValue}
 use Rattle.verify_defs.specs.Acceptance.{HasConfigFor, AcceptsWith, Accepts}
 use Rattle.verify_defs.specs.Deliveries.{HasConfig}
 use Rattle.verify_laws.proofs.Parts.{bundle_unique, config_unique, equal_where_accepted}
-use Rattle.journal_defs.specs.Journals.{Change, agreed, installed, evicted, EntryValue, network_in, spec_at}
+use Rattle.journal_defs.specs.Journals.{Change, agreed, installed, EntryValue, network_in, spec_at}
 use Rattle.journal_defs.specs.Legality.{IsInstallable}
 use Rattle.script_defs.specs.declared.command.Command.{Command}
 use Rattle.script_defs.specs.declared.command.Command.TheVariants.{Agree, Deliver, Evict, Cycle, Sweep}
@@ -19,12 +17,11 @@ use Rattle.script_defs.specs.declared.line.EntryKind.{EntryKind}
 use Rattle.script_defs.specs.declared.line.EntryKind.TheVariants.{Agreed, Installed, Evicted}
 use Rattle.script_defs.specs.declared.line.Line.{Line}
 use Rattle.script_defs.specs.declared.command.FileUse.{FileUse}
-use Rattle.script_defs.specs.Scripts.{ScriptValue, IsCommand, IsScript}
-use Rattle.script_defs.specs.Transcripts.{ReplyValue, TranscriptValue}
+use Rattle.script_defs.specs.Scripts.{ScriptValue, IsCommand}
 use Rattle.session_defs.specs.Files.{Contents, specification, delivery, DescribesNet, IsDelivery}
-use Rattle.session_defs.specs.Meant.{at_turn, MeansChange, MeansEntry, Meant}
+use Rattle.session_defs.specs.Meant.{MeansChange, MeansEntry, Meant}
 use Rattle.session_defs.specs.Replies.{IsAcceptedAfter, Meets}
-use Rattle.session_defs.specs.Transcripts.{slot_of, made, ComesFromCommand, IsTranscript}
+use Rattle.session_defs.specs.Transcripts.{slot_of, made}
 use Rattle.session_laws.specs.Nets.{DescribeNets}
 use Rattle.session_laws.proofs.Places.{IsAgreedIn, place-same, agreed-in}
 

@@ -1,5 +1,5 @@
 -- What stands at the places of lists, and at the turns of lanes.
-use Rattle.std.proofs.Common.{◌≡◌, ◌≢◌, ℕ, zero, suc, ◌+◌, ◌<◌, ◌⊎◌, inl, inr, List, [], ◌∷◌, ◌++◌, length, take, All, Some, refl, sym, ap, subst, ◌∙◌, arith}
+use Rattle.std.proofs.Common.{◌≡◌, ℕ, zero, suc, inl, inr, List, [], ◌∷◌, ◌++◌, length, take, All, Some, refl, sym, ap, subst, ◌∙◌, arith}
 use Rattle.std.specs.List.{slice_get}
 use Rattle.std.proofs.Math.Seq.{take-suc}
 use Rattle.std.proofs.lemmas.Bool.{cases_eq}
@@ -7,7 +7,7 @@ use Rattle.std.proofs.lemmas.List.{take_all}
 use Rattle.std.proofs.lemmas.List.Elements.{All-nil, All-cons, All-head, All-tail}
 use Rattle.std.proofs.lemmas.Option.{none-some, same_Some, slice_get_within, slice_get_cases}
 use Rattle.net_defs.specs.Networks.{Network}
-use Rattle.journal_defs.specs.Journals.{Change, agreed, installed, evicted, EntryValue, network_in, spec_at, spec_after}
+use Rattle.journal_defs.specs.Journals.{Change, agreed, installed, evicted, EntryValue, spec_at, spec_after}
 use Rattle.journal_defs.proofs.JournalLemmas.{spec-own, spec-other}
 use Rattle.session_defs.specs.Meant.{at_turn}
 

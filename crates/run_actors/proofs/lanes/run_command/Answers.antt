@@ -1,7 +1,6 @@
-use Rattle.std.proofs.Common.{◌≡◌, ℕ, List, length, map, inl, inr, refl, sym, ap, subst, ◌∙◌}
+use Rattle.std.proofs.Common.{length, map, inl, sym, subst}
 use Rattle.std.proofs.lemmas.Result.{IfOk-weaker}
-use Rattle.script_defs.specs.declared.command.Command.{Command}
-use Rattle.script_defs.specs.declared.command.Command.TheVariants.{Evict, Cycle, Sweep}
+use Rattle.script_defs.specs.declared.command.Command.TheVariants.{Evict}
 use Rattle.run_script.specs.Replies.{reply_of}
 use Rattle.run_actors.specs.Loading.{contents_of}
 use Rattle.run_actors.specs.Steps.{Answered}

@@ -1,4 +1,4 @@
-use Rattle.std.proofs.Common.{◌≡◌, map, take}
+use Rattle.std.proofs.Common.{◌≡◌, take}
 use Rattle.run_actors.specs.Lines.{lines_of}
 use Rattle.run_actors.proofs.lines.lines_of.Given as goal
 

@@ -1,5 +1,4 @@
-use Rattle.std.proofs.Common.{◌≡◌, ◌≤◌, ◌<◌, ℕ, true, false, length, map, refl, Some, sym, ap, ◌∙◌, arith}
-use Rattle.std.specs.List.{slice_get}
+use Rattle.std.proofs.Common.{◌<◌, length, map, refl, sym, ◌∙◌, arith}
 use Rattle.std.proofs.lemmas.List.{length-map}
 use Rattle.std.proofs.lemmas.Option.{slice_get_read}
 use Rattle.std.proofs.lemmas.Slice.Zip.{AllZip-long}
@@ -12,14 +11,17 @@ pub returns-then-uses-files : goal.returns-then-uses-files
 returns-then-uses-files c = (
   λ wrong. grind (arith, wrong),
   λ loaded.
-      absurd (omega (arith, c.if-uses-files.true, length-map c.args.files.now contents_of,
-      AllZip-long (λ (u : FileUse) d. IsOfKind u.kind d) c.args.uses.now (map contents_of c.args.files.now) loaded)),
+      absurd (omega (
+        arith,
+        c.if-uses-files.true,
+        length-map c.args.files.now contents_of,
+        AllZip-long (λ (u : FileUse) d. IsOfKind u.kind d) c.args.uses.now (map contents_of c.args.files.now) loaded,
+      )),
 )
 
 pub returns-then-not-is_of_kind : goal.returns-then-not-is_of_kind
 returns-then-not-is_of_kind c =
-    let in_files : c.loop-i.i < length c.args.files.now = omega (arith, c.loop-i-test.true, c.if-uses-files.false) in
-    (
+    let in_files : c.loop-i.i < length c.args.files.now = omega (arith, c.loop-i-test.true, c.if-uses-files.false) in (
       λ wrong. grind (arith, wrong),
       λ loaded.
           sym c.if-not-is_of_kind.true

@@ -1,11 +1,11 @@
-use Rattle.std.proofs.Common.{◌≡◌, ℕ, List, [], ◌∷◌, ◌++◌, length, map, All, Some, refl, sym, ap, subst, ◌∙◌}
+use Rattle.std.proofs.Common.{◌≡◌, List, [], ◌∷◌, ◌++◌, length, map, All, Some, refl, sym, ap, subst, ◌∙◌}
 use Rattle.std.specs.List.{slice_get}
 use Rattle.std.proofs.lemmas.List.{map-append}
-use Rattle.std.proofs.lemmas.List.Elements.{All-get_or}
+use Rattle.std.proofs.lemmas.List.Elements.{All-get_or, All-push}
 use Rattle.std.proofs.lemmas.Option.{slice_get_read}
 use Rattle.fabric_defs.specs.Geometries.{GeometryValue}
-use Rattle.script_defs.specs.declared.command.Command.{Command}
 use Rattle.script_defs.specs.Scripts.{IsCommand}
+use Rattle.script_defs.specs.Transcripts.{ReplyValue, IsPrintable}
 use Rattle.run_script.specs.declared.reply.Reply.{Reply}
 use Rattle.run_script.specs.Views.{script_of}
 use Rattle.run_script.specs.Replies.{reply_of}
@@ -47,12 +47,15 @@ loop-lane-preserved g c =
     let runs : RunsLane files c.loop-lane.lane c.commands-item.result (map reply_of replies) c.loop-lane.device c.run_lane.new.device =
     subst (λ cs. RunsLane files c.loop-lane.lane cs (map reply_of replies) c.loop-lane.device c.run_lane.new.device)
     c.as_slice-commands.ensures c.in_ok-replies.ensures.replies in
+    let view : List Reply → List ReplyValue = λ rs. map reply_of rs in
+    let longer : map view c.push.new.self ≡ map view c.loop-lane.lanes ++ map reply_of replies ∷ [] =
+    ap (map view) c.in_ok-push.ensures ∙ map-append view c.loop-lane.lanes (replies ∷ []) in
     record {
       slots = c.in_ok-replies.ensures.device.slots ∙ c.loop-lane.invariant.slots;
+      printable = subst (All (All IsPrintable)) (sym longer)
+          (All-push (All IsPrintable) (map view c.loop-lane.lanes) (map reply_of replies)
+          c.loop-lane.invariant.printable c.in_ok-replies.ensures.printable);
       runs = session-next (script_of s) files s.lanes c.loop-lane.lane c.commands-item.result (map reply_of replies)
-          (map (λ (rs : List Reply). map reply_of rs) c.loop-lane.lanes)
-          (map (λ (rs : List Reply). map reply_of rs) c.push.new.self)
-          c.loop-lane.device c.run_lane.new.device c.loop-lane.invariant.runs found runs
-          (ap (map (λ (rs : List Reply). map reply_of rs)) c.in_ok-push.ensures
-          ∙ map-append (λ (rs : List Reply). map reply_of rs) c.loop-lane.lanes (replies ∷ []));
+          (map view c.loop-lane.lanes) (map view c.push.new.self) c.loop-lane.device c.run_lane.new.device
+          c.loop-lane.invariant.runs found runs longer;
     }

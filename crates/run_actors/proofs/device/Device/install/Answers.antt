@@ -1,4 +1,4 @@
-use Rattle.std.proofs.Common.{rules, ◌≡◌, ◌<◌, ◌≤◌, ℕ, Bool, true, false, ◌↔◌, length, Some, refl, sym, ap, ◌∙◌, arith}
+use Rattle.std.proofs.Common.{rules, ◌≡◌, ◌<◌, ◌≤◌, ℕ, Bool, false, length, Some, refl, ap, ◌∙◌, arith}
 use Rattle.std.specs.Bool.{IsTrue, Decides}
 use Rattle.journal_defs.specs.Journals.{spec_at}
 use Rattle.run_actors.proofs.Answering.{deliver-made}
@@ -7,7 +7,6 @@ use Rattle.run_actors.proofs.device.Device.install.Goals as goal
 -- the journal isn't full
 room-left : (full : Bool) (n limit : ℕ) → full ≡ false → Decides full (n ≡ limit) → n ≤ limit → n < limit
 room-left full n limit is decides le = grind (arith, is, decides, le)
-
 
 pub returns : goal.returns
 returns c files file bytes delivered accepted agreed earlier =

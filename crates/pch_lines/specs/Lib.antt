@@ -4,4 +4,6 @@ pub mod Files
 pub mod Lines
 pub mod RefusalLines
 pub mod RouteLines
+pub mod ScriptLines
+pub mod Sessions
 pub mod Words

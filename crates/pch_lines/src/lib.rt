@@ -1,9 +1,10 @@
 //! The words of a command line as commands, and the lines that the program prints.
 //!
 //! `words` finds the command that words have the form of; `specs/Words` has the forms, and
-//! `specs/Files` which files each command loads and saves. The other files make one line each from an
-//! error, a verdict or a refusal; `specs/FaultLines` and `specs/RefusalLines` have the same lines as
-//! lists of bytes.
+//! `specs/Files` which files each command loads and saves. `session_words` finds the session that words
+//! run, by `specs/Sessions`. The other files make one line each from an error, a verdict or a refusal;
+//! `specs/FaultLines`, `specs/ScriptLines` and `specs/RefusalLines` have the same lines as lists of
+//! bytes.
 #![tactic(auto)]
 
 mod bundle_lines;
@@ -14,6 +15,8 @@ mod limits;
 mod line;
 mod refusal_lines;
 mod route_lines;
+mod script_lines;
+mod session_words;
 mod words;
 
 pub use bundle_lines::{bundle_line, config_line, miter_error_line};
@@ -24,4 +27,6 @@ pub use limits::{MAX_BUNDLE_BYTES, MAX_WORKERS};
 pub use line::Line;
 pub use refusal_lines::{refusal_line, verdict_line};
 pub use route_lines::unroutable_line;
+pub use script_lines::script_line;
+pub use session_words::{SessionWords, session_of};
 pub use words::command_of;

@@ -33,6 +33,10 @@ pub record IsUsable (told : Option Files) (used : ℕ) (u : FileUse) (c : Conten
   pub loads : Loads told u.name (limit_behind u.kind used) bytes
   pub holds : Holds u.kind bytes c
 
+-- the file can be used and has so many bytes
+abbrev pub IsOfSize : Option Files → ℕ → FileUse → Contents → ℕ → Type 0
+IsOfSize told used u c size = (bytes : List ℕ) × IsUsable told used u c bytes × (size ≡ length bytes)
+
 -- all of these files can be used, and this is what they hold; those before them have so many bytes
 abbrev pub AreUsable : Option Files → ℕ → List FileUse → List Contents → Type 0
 AreUsable told used [] [] = Unit {0}

@@ -1,10 +1,13 @@
-ghost use Rattle.std.specs.Prelude.{◌≡◌, ◌≤◌, ◌+◌, ◌⊎◌, ℕ, List, All, length, map, min, ◌-◌, IfOk, IfErr, OnOk};
+ghost use Rattle.std.specs.Prelude.{◌≡◌, ◌<◌, ◌≤◌, ◌+◌, ◌⊎◌, ℕ, List, All, length, map, [], ◌∷◌, ◌++◌, IfOk, IfErr, OnOk};
 ghost use Rattle.std.specs.Str.{IsUtf8};
 ghost use Rattle.script_defs.specs.declared.command.FileUse.{FileUse as Use};
 ghost use Rattle.script_defs.specs.declared.command.Kind.TheVariants as kinds;
-ghost use Rattle.run_actors.specs.Loading.{contents_of};
+ghost use Rattle.run_actors.specs.Loading.{contents_of, AreLoaded};
+ghost use Rattle.run_actors.specs.declared.loaded.Loaded.{Loaded as LoadedFile};
+ghost use Rattle.pch_io.specs.declared.store.LoadFail.TheVariants.{NoMemory as NoMemoryToLoad};
+ghost use Rattle.session_load.specs.declared.fault.FileFault.TheVariants.{Load};
 ghost use Rattle.session_load.specs.declared.limits.TheConstants.{MAX_SESSION_BYTES};
-ghost use Rattle.session_load.specs.Usable.{kind_limit, limit_behind, Holds, IsUsable, AreUsable, FileCause, StopsAt};
+ghost use Rattle.session_load.specs.Usable.{kind_limit, Holds, IsOfSize, AreUsable, FileCause, StopsAt};
 ghost use Rattle.net_defs.specs.Specifications.{IsSpecFault};
 ghost use Rattle.net_defs.specs.declared.specification.SpecError.TheVariants as spec_errors;
 
@@ -59,8 +62,8 @@ fn load_file<S: Store>(
     requires used { used ≤ MAX_SESSION_BYTES }
     ensures files { S.files store.new ≡ S.files store.old }
     ensures calm { OnOk result (S.faults store.new ≡ S.faults store.old) }
-    ensures usable { IfOk result (λ p. (bytes : List ℕ)
-        × IsUsable (S.files store.old) used file.now (contents_of p.0) bytes × (p.1 ≡ length bytes)) }
+    ensures usable { IfOk result (λ p.
+        IsOfSize (S.files store.old) used file.now (contents_of p.0) p.1) }
     ensures within { IfOk result (λ p. used + p.1 ≤ MAX_SESSION_BYTES) }
     ensures cause { IfErr result (FileCause (S.files store.old) (S.faults store.old)
         (S.faults store.new) used file.now) }
@@ -80,6 +83,46 @@ fn load_file<S: Store>(
     }
 }
 
+/// Puts a loaded file behind the others.
+fn push_file(files: &mut Vec<Loaded>, loaded: Loaded) -> Result<(), FileFault>
+    ensures pushed { OnOk result (files.new.items ≡ files.old.items ++ loaded ∷ []) }
+    ensures memory { IfErr result (λ e. e ≡ Load NoMemoryToLoad) }
+{
+    match files.push(loaded) {
+        Ok(()) => Ok(()),
+        Err(_) => Err(FileFault::Load(LoadFail::NoMemory)),
+    }
+}
+
+/// Loads one file more, where those before it have so many bytes, and answers how many bytes it has.
+fn load_next<S: Store>(
+    alloc: Global,
+    store: &mut S,
+    file: &FileUse,
+    used: u64,
+    files: &mut Vec<Loaded>,
+) -> Result<u64, FileFault>
+    requires name { IsUtf8 file.now.name }
+    requires used { used ≤ MAX_SESSION_BYTES }
+    ensures files { S.files store.new ≡ S.files store.old }
+    ensures calm { OnOk result (S.faults store.new ≡ S.faults store.old) }
+    ensures usable { IfOk result (λ size. (l : LoadedFile)
+        × IsOfSize (S.files store.old) used file.now (contents_of l) size
+        × (files.new.items ≡ files.old.items ++ l ∷ [])) }
+    ensures within { IfOk result (λ size. used + size ≤ MAX_SESSION_BYTES) }
+    ensures cause { IfErr result (FileCause (S.files store.old) (S.faults store.old)
+        (S.faults store.new) used file.now) }
+{
+    let (loaded, size) = match load_file(alloc, store, file, used) {
+        Ok(loaded) => loaded,
+        Err(fault) => return Err(fault),
+    };
+    match push_file(files, loaded) {
+        Ok(()) => Ok(size),
+        Err(fault) => Err(fault),
+    }
+}
+
 /// Loads the files of a script in their order, up to the first that can't be used. Each may have as
 /// many bytes as its kind allows, or what the files before it leave of `MAX_SESSION_BYTES` if that is
 /// less. Each name is to be the UTF-8 of a text, as the names of a script are.
@@ -93,22 +136,16 @@ pub fn load_files<S: Store>(
     ensures files { S.files store.new ≡ S.files store.old }
     ensures calm { OnOk result (S.faults store.new ≡ S.faults store.old) }
     ensures usable { IfOk result (λ l. AreUsable (S.files store.old) 0 uses.now (map contents_of l.items)) }
+    ensures kinds { IfOk result (λ l. AreLoaded uses.now (map contents_of l.items)) }
+    ensures number { IfErr result (λ n. n.file < length uses.now) }
     ensures fault { IfErr result (λ n. StopsAt (S.files store.old) (S.faults store.old) (S.faults store.new)
         0 uses.now n.file n.fault) }
 {
     let mut files = Vec::new(alloc);
     let mut used = 0;
     for (i, file) in uses.iter().enumerate() {
-        match load_file(alloc, store, file, used) {
-            Ok((loaded, size)) => {
-                used += size;
-                if files.push(loaded).is_err() {
-                    return Err(NotUsable {
-                        file: i as u32,
-                        fault: FileFault::Load(LoadFail::NoMemory),
-                    });
-                }
-            }
+        match load_next(alloc, store, file, used, &mut files) {
+            Ok(size) => used += size,
             Err(fault) => {
                 return Err(NotUsable {
                     file: i as u32,

@@ -4,4 +4,5 @@ pub mod CompactLemmas
 pub mod LoadLemmas
 pub mod PlaceLemmas
 pub mod RunLemmas
+pub mod SessionLemmas
 pub mod VerifyLemmas

@@ -30,7 +30,7 @@ abbrev IsOfWork : Outcome → Type 0
 IsOfWork o = (o.status ≡ Unroutable) ⊎ IsOfFiles o
 
 -- equal outcomes have one status
-status_of : (o p : Outcome) → o ≡ p → o.status ≡ p.status
+pub status_of : (o p : Outcome) → o ≡ p → o.status ≡ p.status
 status_of o p e = ap (λ (x : Outcome). x.status) e
 
 -- what `check` comes to is of its files
@@ -311,7 +311,7 @@ too_long None limit b e le h = absurd (cc)
 too_long (Some c) limit b e le h = let same : c ≡ b = cc in let k : limit < length b = rw same at h in omega arith
 
 -- a file that is there within its limit isn't loaded only where a fault was counted
-cause_rose : (t : Files) (name : List ℕ) (limit before now : ℕ) (fail : LoadFail) (b : List ℕ) → Loads (Some t) name limit b
+pub cause_rose : (t : Files) (name : List ℕ) (limit before now : ℕ) (fail : LoadFail) (b : List ℕ) → Loads (Some t) name limit b
     → LoadCause (Some t) name limit before now fail → fail ≢ fails.NoMemory → Rose before now
 cause_rose t name limit before now fails.Failed b there cause real = cause
 cause_rose t name limit before now fails.Absent b there cause real = absurd (let e : Some b ≡ None = sym there.0 ∙ cause in cc)

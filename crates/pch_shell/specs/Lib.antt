@@ -6,5 +6,7 @@ pub mod Loading
 pub mod Outcomes
 pub mod Place
 pub mod Runs
+pub mod Session
+pub mod SessionRuns
 pub mod Statuses
 pub mod Verify

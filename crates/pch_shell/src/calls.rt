@@ -4,17 +4,20 @@ ghost use Rattle.std.specs.Prelude.{◌≡◌, None, Some, length, IfOk, OnErr};
 ghost use Rattle.pch_lines.specs.Words.{words_in, form_of};
 ghost use Rattle.pch_lines.specs.Files.{files_of};
 ghost use Rattle.pch_lines.specs.Commands.{form_seen, HasWorkers};
+ghost use Rattle.pch_lines.specs.Sessions.{session_form};
 ghost use Rattle.pch_shell.specs.Due.{FilesDue};
 ghost use Rattle.pch_shell.specs.Runs.{Leaves, Tells, WordsTell, Runs};
+ghost use Rattle.pch_shell.specs.SessionRuns.{Answers};
 
 use crate::commands::{check, cnf, compact, placing, verifying};
 use crate::ending::Ending;
 use crate::finishing::{finish, save};
 use crate::loading::{Loaded, load_all};
+use crate::sessions::session;
 use crate::status::Status;
 use pch_base::NoMemory;
 use pch_io::{Gate, Sink, Store};
-use pch_lines::{Command, command_of};
+use pch_lines::{Command, command_of, session_of};
 use std::alloc::Global;
 use std::sync::Wait;
 use std::thread::Threads;
@@ -124,24 +127,30 @@ pub fn command<R: Threads + Sync, S: Store, O: Sink>(
     finish(out, told)
 }
 
-/// Runs the command of these words, and answers its status. It may wait for other threads.
+/// Runs the command or the session of these words, and answers its status. It may wait for other
+/// threads.
 ///
-/// It is `command` for every form of words that there is; no form passes the gate yet.
+/// It is `session` for the words of a session, and `command` for all others; `Answers` says what comes
+/// of them.
 pub fn top<R: Threads + Wait + Sync, S: Store, O: Sink, G: Gate>(
     rt: &R,
     alloc: Global,
     words: &[String],
     store: &mut S,
     out: &mut O,
-    _gate: &G,
+    gate: &G,
 ) -> Status
-    ensures runs { Runs (words_in words.now)
+    ensures answers { Answers (words_in words.now)
         (record { files = S.files store.old; faults = S.faults store.old })
         (record { files = S.files store.new; faults = S.faults store.new })
         (record { held = O.held out.old; faults = O.faults out.old })
         (record { held = O.held out.new; faults = O.faults out.new })
         result }
-    ensures untouched { form_of (words_in words.now) ≡ None → store.new ≡ store.old }
+    ensures untouched { form_of (words_in words.now) ≡ None → session_form (words_in words.now) ≡ None
+        → store.new ≡ store.old }
 {
-    command(rt, alloc, words, store, out)
+    match session_of(words) {
+        Some(_) => session(rt, alloc, words, store, out, gate),
+        None => command(rt, alloc, words, store, out),
+    }
 }

@@ -1,6 +1,6 @@
 use super::*;
 use pch_base::Name;
-use pch_io::{MemSink, MemStore, OpenGate};
+use pch_io::{MemSink, MemStore, NoFaultStore, OpenGate};
 use std::alloc::{AllocError, Global};
 use std::test::Fail;
 
@@ -80,5 +80,39 @@ fn one_load_and_one_save(rt: HostRuntime) -> Result<(), Fail> {
     assert!(rt; out.bytes() == b"written 16\n".as_slice());
     let config = [0, 1, 0, 1, 0, 0, 0, 0, 0, 0, 0x55, 0x55, 0, 2, 0, 1];
     assert!(rt; store.file("o") == Some(config.as_slice()));
+    Ok(())
+}
+
+#[test]
+fn check_without_a_fault_is_done(rt: HostRuntime) -> Result<(), Fail> {
+    let alloc = rt.alloc();
+    let mut files = Vec::new(alloc);
+    files.push((named(alloc, "c")?, FORMULA.to_vec(alloc)?))?;
+    files.push((named(alloc, "t")?, TRACE.to_vec(alloc)?))?;
+    let mut store = NoFaultStore::new(alloc, files).map_err(|_| AllocError)?;
+    let mut out = MemSink::new(alloc, Vec::new(alloc));
+    let status = command(&rt, alloc, &words(alloc)?, &mut store, &mut out);
+    assert!(rt; status == Status::Done);
+    assert!(rt; out.bytes() == b"verified\n".as_slice());
+    Ok(())
+}
+
+const SCRIPT: &[u8] = b"fabric 1 1 1 1 1\nslots 1\nlimit 1\nworkers 1\nlane\n\
+cycle 0 1 0\nagree 0 d\nevict 0\n";
+
+const TRANSCRIPT: &[u8] = b"journal 1\n1 agreed 0 1 0\nlane 0\n0 vacant @0\n1 agreed @1\n2 full @1\n";
+
+#[test]
+fn two_loads_and_one_put_of_a_session(rt: HostRuntime) -> Result<(), Fail> {
+    let alloc = rt.alloc();
+    let mut files = Vec::new(alloc);
+    files.push((named(alloc, "s")?, SCRIPT.to_vec(alloc)?))?;
+    files.push((named(alloc, "d")?, DESIGN.to_vec(alloc)?))?;
+    let mut store = MemStore::new(alloc, files, vec![in alloc; 3]?).map_err(|_| AllocError)?;
+    let mut out = MemSink::new(alloc, vec![in alloc; 2]?);
+    let line = words_of(alloc, &["run", "s"])?;
+    let status = top(&rt, alloc, &line, &mut store, &mut out, &OpenGate);
+    assert!(rt; status == Status::Done);
+    assert!(rt; out.bytes() == TRANSCRIPT);
     Ok(())
 }

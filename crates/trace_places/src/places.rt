@@ -3,8 +3,8 @@ ghost use Rattle.std.specs.Ordering.{nat_cmp};
 ghost use Rattle.std.specs.BTreeMap.{get};
 ghost use Rattle.sat_text_defs.specs.TraceReading.{places_from};
 ghost use Rattle.clause_defs.specs.Traces.{place_of};
-ghost use Rattle.trace_places.specs.Groups.{AreSlots};
-ghost use Rattle.trace_places.specs.Places.{AreRight, MapsRight, HasAll, AreKept, IsMoved};
+ghost use Rattle.trace_places.specs.Groups.{AreSlots, AreWithin};
+ghost use Rattle.trace_places.specs.Places.{AreDistinct, MapsRight, HasAll, AreKept, AreAllKept, IsMoved};
 
 use crate::groups::Groups;
 use pch_base::NoMemory;
@@ -46,7 +46,7 @@ impl Model for Places {
     ghost view = { λ p. p.indices.items };
 
     ghost invariant = { λ p. ArePlaces p.indices.items p.table.items p.groups.count
-        p.groups.indices.items p.groups.numbers.items (get nat_cmp p.others) };
+        p.groups.tags.items p.groups.numbers.items (get nat_cmp p.others) };
 }
 
 impl Places {
@@ -75,7 +75,7 @@ impl Places {
         if at < self.table.len() && self.table[at] != 0 {
             return Some(self.table[at] - 1);
         }
-        if let Some(place) = self.groups.find(index) {
+        if let Some(place) = self.groups.find(&self.indices, index) {
             return Some(place);
         }
         self.others.get(&index).copied()
@@ -189,16 +189,17 @@ fn make_room(
     groups: &mut Groups,
     others: &mut BTreeMap<u32, u32>,
 ) -> Result<(), NoMemory>
-    requires slots { AreSlots groups.old.count groups.old.indices.items groups.old.numbers.items }
-    requires right { AreRight indices.now groups.old.indices.items groups.old.numbers.items }
+    requires slots { AreSlots groups.old.count groups.old.tags.items groups.old.numbers.items }
+    requires within { AreWithin indices.now groups.old.numbers.items }
+    requires distinct { AreDistinct indices.now }
     requires mapped { MapsRight indices.now (get nat_cmp others.old) }
-    ensures slots { AreSlots groups.new.count groups.new.indices.items groups.new.numbers.items }
-    ensures right { AreRight indices.now groups.new.indices.items groups.new.numbers.items }
+    ensures slots { AreSlots groups.new.count groups.new.tags.items groups.new.numbers.items }
+    ensures within { AreWithin indices.now groups.new.numbers.items }
     ensures mapped { MapsRight indices.now (get nat_cmp others.new) }
     ensures all { HasAll (get nat_cmp others.old) (get nat_cmp others.new) }
-    ensures kept { AreKept
-        groups.old.count groups.old.indices.items groups.old.numbers.items
-        groups.new.count groups.new.indices.items groups.new.numbers.items
+    ensures kept { AreAllKept indices.now
+        groups.old.count groups.old.tags.items groups.old.numbers.items
+        groups.new.count groups.new.tags.items groups.new.numbers.items
         (get nat_cmp others.new) }
     ensures some { OnOk result (0 < groups.new.count) }
 {
@@ -217,7 +218,7 @@ fn make_room(
     Ok(())
 }
 
-/// Puts what stands in a slot into other groups, or into the map.
+/// Puts the place in a slot into other groups, or into the map.
 fn move_slot(
     indices: &[u32],
     groups: &Groups,
@@ -225,29 +226,31 @@ fn move_slot(
     more: &mut Groups,
     others: &mut BTreeMap<u32, u32>,
 ) -> Result<(), NoMemory>
-    requires from { AreSlots groups.now.count groups.now.indices.items groups.now.numbers.items }
-    requires within { slot < length groups.now.numbers.items }
-    requires from_right { AreRight indices.now groups.now.indices.items groups.now.numbers.items }
-    requires slots { AreSlots more.old.count more.old.indices.items more.old.numbers.items }
+    requires from { AreSlots groups.now.count groups.now.tags.items groups.now.numbers.items }
+    requires slot { slot < length groups.now.numbers.items }
+    requires from_within { AreWithin indices.now groups.now.numbers.items }
+    requires slots { AreSlots more.old.count more.old.tags.items more.old.numbers.items }
     requires some { 0 < more.old.count }
-    requires right { AreRight indices.now more.old.indices.items more.old.numbers.items }
+    requires within { AreWithin indices.now more.old.numbers.items }
+    requires distinct { AreDistinct indices.now }
     requires mapped { MapsRight indices.now (get nat_cmp others.old) }
-    ensures slots { AreSlots more.new.count more.new.indices.items more.new.numbers.items }
+    ensures slots { AreSlots more.new.count more.new.tags.items more.new.numbers.items }
     ensures count { more.new.count ≡ more.old.count }
-    ensures right { AreRight indices.now more.new.indices.items more.new.numbers.items }
+    ensures within { AreWithin indices.now more.new.numbers.items }
     ensures mapped { MapsRight indices.now (get nat_cmp others.new) }
     ensures all { HasAll (get nat_cmp others.old) (get nat_cmp others.new) }
     ensures kept { AreKept
-        more.old.count more.old.indices.items more.old.numbers.items
-        more.new.count more.new.indices.items more.new.numbers.items (get nat_cmp others.old) }
+        more.old.count more.old.tags.items more.old.numbers.items
+        more.new.count more.new.tags.items more.new.numbers.items (get nat_cmp others.old) }
     ensures moved { OnOk result (IsMoved
-        groups.now.indices.items groups.now.numbers.items
-        more.new.count more.new.indices.items more.new.numbers.items
+        indices.now groups.now.numbers.items
+        more.new.count more.new.tags.items more.new.numbers.items
         (get nat_cmp others.new) slot) }
 {
-    let Some((index, place)) = groups.entry(slot) else {
+    let Some(place) = groups.place(slot) else {
         return Ok(());
     };
+    let index = indices[place as usize];
     if more.add(index, place) {
         return Ok(());
     }

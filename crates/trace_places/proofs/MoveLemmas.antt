@@ -1,12 +1,10 @@
 -- Indices that move into other groups, or into the map.
-use Rattle.std.proofs.Common.{◌⊎◌, ◌≡◌, ℕ, ◌+◌, ◌<◌, cond, nat_cmp, inl, inr, List, length, get_or, Option, Some, sym, ap, ◌∙◌, subst, arith}
-use Rattle.std.proofs.lemmas.Bool.{cases_lt, cases_eq, cond-true, cond-false}
+use Rattle.std.proofs.Common.{◌⊎◌, ◌≡◌, ℕ, ◌+◌, ◌<◌, ◌==◌, if◌then◌else◌, inl, inr, List, length, get_or, Option, Some, refl, sym, ap, ◌∙◌, subst, arith}
+use Rattle.std.proofs.lemmas.Bool.{cases_lt, cases_eq, cond-true, cond-false, eq-eqb, ne_eqb}
 use Rattle.std.proofs.lemmas.List.{get_or_past}
-use Rattle.std.specs.BTreeMap.{is_at}
 use Rattle.clause_defs.specs.Traces.{place_of}
 use Rattle.trace_places.specs.Groups.{AreWithin, StandsInSlot, NoSlots}
 use Rattle.trace_places.specs.Places.{MapsRight, HasAll, AreKept, AreAllKept, IsMoved}
-use Rattle.trace_places.proofs.PlaceLemmas.{is_at_same, is_at_other}
 
 -- slots with one more place
 pub within_after : (indices numbers new_numbers : List ℕ) (q : ℕ) → q < length indices → AreWithin indices numbers
@@ -19,25 +17,25 @@ within_after indices numbers new_numbers q lt within only s p e = elim (only s p
 
 -- a map with one more index
 pub maps_right_after : (indices : List ℕ) (others new : ℕ → Option ℕ) (x q : ℕ) → place_of indices x ≡ Some q → MapsRight indices others
-    → ((y : ℕ) → new y ≡ cond (is_at (nat_cmp x) y) (Some q) (others y)) → MapsRight indices new
+    → ((y : ℕ) → new y ≡ (if x == y then Some q else others y)) → MapsRight indices new
 maps_right_after indices others new x q here mapped insert y p e = elim (cases_eq x y) [
   | inl same ↦ subst (λ z. new z ≡ Some p → place_of indices z ≡ Some p) same
-      (λ own. here ∙ (sym (insert x ∙ cond-true (is_at (nat_cmp x) x) (Some q) (others x) (is_at_same x)) ∙ own)) e
-  | inr other ↦ mapped y p (sym (insert y ∙ cond-false (is_at (nat_cmp x) y) (Some q) (others y) (is_at_other x y other)) ∙ e)
+      (λ own. here ∙ (sym (insert x ∙ cond-true (x == x) (Some q) (others x) (eq-eqb x x refl)) ∙ own)) e
+  | inr other ↦ mapped y p (sym (insert y ∙ cond-false (x == y) (Some q) (others y) (ne_eqb x y other)) ∙ e)
 ]
 
 -- an index that is put into the map at its right place takes no other index out
 pub has_all_after : (indices : List ℕ) (others new : ℕ → Option ℕ) (x q : ℕ) → place_of indices x ≡ Some q → MapsRight indices others
-    → ((y : ℕ) → new y ≡ cond (is_at (nat_cmp x) y) (Some q) (others y)) → HasAll others new
+    → ((y : ℕ) → new y ≡ (if x == y then Some q else others y)) → HasAll others new
 has_all_after indices others new x q here mapped insert y p e = elim (cases_eq x y) [
   | inl same ↦ subst (λ z. others z ≡ Some p → new z ≡ Some p) same
-      (λ own. insert x ∙ cond-true (is_at (nat_cmp x) x) (Some q) (others x) (is_at_same x) ∙ (sym here ∙ mapped x p own)) e
-  | inr other ↦ insert y ∙ cond-false (is_at (nat_cmp x) y) (Some q) (others y) (is_at_other x y other) ∙ e
+      (λ own. insert x ∙ cond-true (x == x) (Some q) (others x) (eq-eqb x x refl) ∙ (sym here ∙ mapped x p own)) e
+  | inr other ↦ insert y ∙ cond-false (x == y) (Some q) (others y) (ne_eqb x y other) ∙ e
 ]
 
 -- the map has what was put into it
-pub has_after : (others new : ℕ → Option ℕ) (x q : ℕ) → ((y : ℕ) → new y ≡ cond (is_at (nat_cmp x) y) (Some q) (others y)) → new x ≡ Some q
-has_after others new x q insert = insert x ∙ cond-true (is_at (nat_cmp x) x) (Some q) (others x) (is_at_same x)
+pub has_after : (others new : ℕ → Option ℕ) (x q : ℕ) → ((y : ℕ) → new y ≡ (if x == y then Some q else others y)) → new x ≡ Some q
+has_after others new x q insert = insert x ∙ cond-true (x == x) (Some q) (others x) (eq-eqb x x refl)
 
 -- ---- all slots
 

@@ -1,13 +1,12 @@
 -- What is found, and one more index.
-use Rattle.std.proofs.Common.{◌⊎◌, ◌≡◌, ℕ, zero, suc, ◌+◌, ◌-◌, ◌<◌, ◌==◌, if◌then◌else◌, cond, nat_cmp, inl, inr, List, [], ◌∷◌, ◌++◌, length, get_or, Option, Some, None, refl, sym, ap, ◌∙◌, subst, arith, length-append}
+use Rattle.std.proofs.Common.{◌⊎◌, ◌≡◌, ℕ, zero, suc, ◌+◌, ◌-◌, ◌<◌, ◌==◌, if◌then◌else◌, inl, inr, List, [], ◌∷◌, ◌++◌, length, get_or, Option, Some, None, refl, sym, ap, ◌∙◌, subst, arith, length-append}
 use Rattle.std.proofs.lemmas.Bool.{cases_lt, cases_eq, ne_eqb, eq-eqb, cond-true, cond-false}
-use Rattle.std.specs.BTreeMap.{is_at}
 use Rattle.std.proofs.lemmas.List.{get_or_append_left}
 use Rattle.std.proofs.Math.Seq.{get_or-append_seam}
 use Rattle.clause_defs.specs.Traces.{place_of, place_from}
 use Rattle.trace_places.specs.Groups.{AreSlots, AreWithin, StandsInSlot}
 use Rattle.trace_places.specs.Places.{AreDistinct, MapsRight, HasAll, IsKnown, ArePlaces, AreAllKept}
-use Rattle.trace_places.proofs.PlaceLemmas.{place_of-push_same, place_of-push_other, is_at_same, is_at_other}
+use Rattle.trace_places.proofs.PlaceLemmas.{place_of-push_same, place_of-push_other}
 
 -- ---- what is found
 
@@ -186,10 +185,10 @@ ArePlaces-add indices table count tags numbers new_count new_tags new_numbers ot
 
 -- in the map
 pub ArePlaces-insert : (indices table : List ℕ) (count : ℕ) (tags numbers : List ℕ) (others new : ℕ → Option ℕ) (x : ℕ) → place_of indices x ≡ None
-    → ((y : ℕ) → new y ≡ cond (is_at (nat_cmp x) y) (Some (length indices)) (others y))
+    → ((y : ℕ) → new y ≡ (if x == y then Some (length indices) else others y))
     → ArePlaces indices table count tags numbers others → ArePlaces (indices ++ x ∷ []) table count tags numbers new
 ArePlaces-insert indices table count tags numbers others new x none insert h =
-    let here : new x ≡ Some (length indices) = insert x ∙ cond-true (is_at (nat_cmp x) x) (Some (length indices)) (others x) (is_at_same x) in
+    let here : new x ≡ Some (length indices) = insert x ∙ cond-true (x == x) (Some (length indices)) (others x) (eq-eqb x x refl) in
     ArePlaces-more indices table table count tags numbers tags numbers others new x none h
     (record {
       are_slots = h.are_slots;
@@ -197,7 +196,7 @@ ArePlaces-insert indices table count tags numbers others new x none insert h =
       tabled_here = λ p e. no_entry indices table count tags numbers others x p none h e;
       within = λ s p e. inl e;
       stands = λ y p stands. stands;
-      mapped = λ y other. insert y ∙ cond-false (is_at (nat_cmp x) y) (Some (length indices)) (others y) (is_at_other x y other);
+      mapped = λ y other. insert y ∙ cond-false (x == y) (Some (length indices)) (others y) (ne_eqb x y other);
       mapped_here = λ p e. cc;
       known = inr (inr (ap new (get_or-append_seam indices x [] 0) ∙ here));
     })

@@ -1,15 +1,14 @@
 ghost use Rattle.std.specs.Prelude.{◌≡◌, ◌==◌, ℕ, vec_len, slice_index, if◌then◌else◌, ◌+◌, ◌<◌, ◌^◌, ◌∷◌, ◌++◌, true, [], length, IfOk, OnOk, OnErr, Ok, Err, Some, None, MatchOption};
-ghost use Rattle.std.specs.Ordering.{nat_cmp};
-ghost use Rattle.std.specs.BTreeMap.{get};
 ghost use Rattle.sat_text_defs.specs.TraceReading.{places_from};
 ghost use Rattle.clause_defs.specs.Traces.{place_of};
 ghost use Rattle.trace_places.specs.Groups.{AreSlots, AreWithin};
+ghost use Rattle.trace_places.specs.Others.{place_in};
 ghost use Rattle.trace_places.specs.Places.{AreDistinct, MapsRight, HasAll, AreKept, AreAllKept, IsMoved};
 
 use crate::groups::Groups;
+use crate::others::Others;
 use pch_base::NoMemory;
 use std::alloc::Global;
-use std::collections::BTreeMap;
 use std::marker::Model;
 
 /// So many groups there are at first.
@@ -31,14 +30,13 @@ pub struct Places {
     /// How many indices stand in the groups.
     in_groups: usize,
     /// Indices whose group was full.
-    others: BTreeMap<u32, u32>,
+    others: Others,
     alloc: Global,
 }
 
 impl Model for Places {
     ghost use Rattle.std.specs.Prelude.{ℕ, List};
-    ghost use Rattle.std.specs.Ordering.{nat_cmp};
-    ghost use Rattle.std.specs.BTreeMap.{get};
+    ghost use Rattle.trace_places.specs.Others.{place_in};
     ghost use Rattle.trace_places.specs.Places.{ArePlaces};
 
     ghost Value = { List ℕ };
@@ -46,7 +44,7 @@ impl Model for Places {
     ghost view = { λ p. p.indices.items };
 
     ghost invariant = { λ p. ArePlaces p.indices.items p.table.items p.groups.count
-        p.groups.tags.items p.groups.numbers.items (get nat_cmp p.others) };
+        p.groups.tags.items p.groups.numbers.items (place_in p.others) };
 }
 
 impl Places {
@@ -61,7 +59,7 @@ impl Places {
             in_table: 0,
             groups: Groups::none(alloc),
             in_groups: 0,
-            others: BTreeMap::new(alloc),
+            others: Others::none(alloc),
             alloc,
         }
     }
@@ -78,7 +76,7 @@ impl Places {
         if let Some(place) = self.groups.find(&self.indices, index) {
             return Some(place);
         }
-        self.others.get(&index).copied()
+        self.others.get(index)
     }
 
     /// The place where the index stands. An index that is too great for the table is looked for at the
@@ -187,20 +185,20 @@ fn make_room(
     indices: &[u32],
     in_groups: usize,
     groups: &mut Groups,
-    others: &mut BTreeMap<u32, u32>,
+    others: &mut Others,
 ) -> Result<(), NoMemory>
     requires slots { AreSlots groups.old.count groups.old.tags.items groups.old.numbers.items }
     requires within { AreWithin indices.now groups.old.numbers.items }
     requires distinct { AreDistinct indices.now }
-    requires mapped { MapsRight indices.now (get nat_cmp others.old) }
+    requires mapped { MapsRight indices.now (place_in others.old) }
     ensures slots { AreSlots groups.new.count groups.new.tags.items groups.new.numbers.items }
     ensures within { AreWithin indices.now groups.new.numbers.items }
-    ensures mapped { MapsRight indices.now (get nat_cmp others.new) }
-    ensures all { HasAll (get nat_cmp others.old) (get nat_cmp others.new) }
+    ensures mapped { MapsRight indices.now (place_in others.new) }
+    ensures all { HasAll (place_in others.old) (place_in others.new) }
     ensures kept { AreAllKept indices.now
         groups.old.count groups.old.tags.items groups.old.numbers.items
         groups.new.count groups.new.tags.items groups.new.numbers.items
-        (get nat_cmp others.new) }
+        (place_in others.new) }
     ensures some { OnOk result (0 < groups.new.count) }
 {
     if in_groups / 4 < groups.count {
@@ -224,7 +222,7 @@ fn move_slot(
     groups: &Groups,
     slot: usize,
     more: &mut Groups,
-    others: &mut BTreeMap<u32, u32>,
+    others: &mut Others,
 ) -> Result<(), NoMemory>
     requires from { AreSlots groups.now.count groups.now.tags.items groups.now.numbers.items }
     requires slot { slot < length groups.now.numbers.items }
@@ -233,19 +231,19 @@ fn move_slot(
     requires some { 0 < more.old.count }
     requires within { AreWithin indices.now more.old.numbers.items }
     requires distinct { AreDistinct indices.now }
-    requires mapped { MapsRight indices.now (get nat_cmp others.old) }
+    requires mapped { MapsRight indices.now (place_in others.old) }
     ensures slots { AreSlots more.new.count more.new.tags.items more.new.numbers.items }
     ensures count { more.new.count ≡ more.old.count }
     ensures within { AreWithin indices.now more.new.numbers.items }
-    ensures mapped { MapsRight indices.now (get nat_cmp others.new) }
-    ensures all { HasAll (get nat_cmp others.old) (get nat_cmp others.new) }
+    ensures mapped { MapsRight indices.now (place_in others.new) }
+    ensures all { HasAll (place_in others.old) (place_in others.new) }
     ensures kept { AreKept
         more.old.count more.old.tags.items more.old.numbers.items
-        more.new.count more.new.tags.items more.new.numbers.items (get nat_cmp others.old) }
+        more.new.count more.new.tags.items more.new.numbers.items (place_in others.old) }
     ensures moved { OnOk result (IsMoved
         indices.now groups.now.numbers.items
         more.new.count more.new.tags.items more.new.numbers.items
-        (get nat_cmp others.new) slot) }
+        (place_in others.new) slot) }
 {
     let Some(place) = groups.place(slot) else {
         return Ok(());

@@ -1,5 +1,5 @@
-use Rattle.std.proofs.Common.{ℕ, ◌<◌, nat_cmp}
-use Rattle.std.specs.BTreeMap.{get}
+use Rattle.std.proofs.Common.{ℕ, ◌<◌}
+use Rattle.trace_places.specs.Others.{place_in}
 use Rattle.trace_places.specs.Groups.{AreSlots, AreWithin}
 use Rattle.trace_places.specs.Places.{MapsRight, HasAll, IsMoved}
 use Rattle.trace_places.proofs.places.make_room.Given as goal
@@ -10,7 +10,7 @@ invariant-loop-slot l = record {
   slots : AreSlots l.more.count l.more.tags.items l.more.numbers.items;
   some : 0 < l.more.count;
   within : AreWithin l.indices l.more.numbers.items;
-  mapped : MapsRight l.indices (get nat_cmp l.others);
-  all : HasAll (get nat_cmp l.fn.others) (get nat_cmp l.others);
-  moved : (s : ℕ) → s < l.slot → IsMoved l.indices l.groups.numbers.items l.more.count l.more.tags.items l.more.numbers.items (get nat_cmp l.others) s;
+  mapped : MapsRight l.indices (place_in l.others);
+  all : HasAll (place_in l.fn.others) (place_in l.others);
+  moved : (s : ℕ) → s < l.slot → IsMoved l.indices l.groups.numbers.items l.more.count l.more.tags.items l.more.numbers.items (place_in l.others) s;
 }

@@ -1,5 +1,5 @@
-use Rattle.std.proofs.Common.{◌≡◌, ℕ, get_or, nat_cmp, Some, inr, subst, arith}
-use Rattle.std.specs.BTreeMap.{get}
+use Rattle.std.proofs.Common.{◌≡◌, ℕ, get_or, Some, inr, subst, arith}
+use Rattle.trace_places.specs.Others.{place_in}
 use Rattle.trace_places.proofs.MoveLemmas.{within_after, maps_right_after, has_all_after, has_after}
 use Rattle.trace_places.proofs.places.move_slot.Goals as goal
 
@@ -31,22 +31,22 @@ bounds-indices-place c = c.requires.from_within c.args.slot c.in-Some.place c.in
 -- the index has its place in the map
 pub returns-clause-mapped : goal.returns-clause-mapped
 returns-clause-mapped c =
-    maps_right_after c.args.indices.now (get nat_cmp c.args.others.now) (get nat_cmp c.insert.new.self) (get_or c.args.indices.now c.in-Some.place 0) c.in-Some.place
+    maps_right_after c.args.indices.now (place_in c.args.others.now) (place_in c.insert.new.self) (get_or c.args.indices.now c.in-Some.place 0) c.in-Some.place
     (c.requires.distinct c.in-Some.place (c.requires.from_within c.args.slot c.in-Some.place c.in-Some.ensures.some))
-    c.requires.mapped (c.in_ok-insert.ensures {u = tt}).updates.0
+    c.requires.mapped (c.in_ok-insert.ensures {u = tt}).updates
 
 -- the map keeps what it had
 pub returns-clause-all : goal.returns-clause-all
 returns-clause-all c =
-    has_all_after c.args.indices.now (get nat_cmp c.args.others.now) (get nat_cmp c.insert.new.self) (get_or c.args.indices.now c.in-Some.place 0) c.in-Some.place
+    has_all_after c.args.indices.now (place_in c.args.others.now) (place_in c.insert.new.self) (get_or c.args.indices.now c.in-Some.place 0) c.in-Some.place
     (c.requires.distinct c.in-Some.place (c.requires.from_within c.args.slot c.in-Some.place c.in-Some.ensures.some))
-    c.requires.mapped (c.in_ok-insert.ensures {u = tt}).updates.0
+    c.requires.mapped (c.in_ok-insert.ensures {u = tt}).updates
 
 -- the map has the index with its place
 pub returns-clause-moved : goal.returns-clause-moved
 returns-clause-moved c p e =
     let some = c.in-Some.ensures.some in
     let same : c.in-Some.place ≡ p = omega arith in
-    inr (subst (λ (q : ℕ). get nat_cmp c.insert.new.self (get_or c.args.indices.now q 0) ≡ Some q) same
-    (has_after (get nat_cmp c.args.others.now) (get nat_cmp c.insert.new.self) (get_or c.args.indices.now c.in-Some.place 0) c.in-Some.place
-    (c.in_ok-insert.ensures {u = tt}).updates.0))
+    inr (subst (λ (q : ℕ). place_in c.insert.new.self (get_or c.args.indices.now q 0) ≡ Some q) same
+    (has_after (place_in c.args.others.now) (place_in c.insert.new.self) (get_or c.args.indices.now c.in-Some.place 0) c.in-Some.place
+    (c.in_ok-insert.ensures {u = tt}).updates))

@@ -1,6 +1,6 @@
-use Rattle.std.proofs.Common.{◌≡◌, ℕ, ◌-◌, ◌<◌, List, get_or, length, nat_cmp, sym, ap, ◌∙◌, subst, arith}
+use Rattle.std.proofs.Common.{◌≡◌, ℕ, ◌-◌, ◌<◌, List, get_or, length, sym, ap, ◌∙◌, subst, arith}
 use Rattle.std.proofs.lemmas.List.{get_or_past, get_or_default}
-use Rattle.std.specs.BTreeMap.{get}
+use Rattle.trace_places.specs.Others.{place_in}
 use Rattle.clause_defs.specs.Traces.{place_of}
 use Rattle.trace_places.specs.Groups.{AreWithin, StandsInSlot}
 use Rattle.trace_places.proofs.PushLemmas.{entry_of, known_in_map}
@@ -43,5 +43,5 @@ returns c =
     → StandsInSlot c.self.inside.groups.count c.self.inside.groups.tags.items c.self.inside.groups.numbers.items c.args.index k → ⊥)
     lent (c.in_default.ensures {u = tt}).none in
     let here = known_in_map c.self.inside.indices.items c.self.inside.table.items c.self.inside.groups.count c.self.inside.groups.tags.items
-    c.self.inside.groups.numbers.items (get nat_cmp c.self.inside.others) c.args.index c.self.invariant no_entry no_slot in
-    c.copied.ensures ∙ c.get.ensures.value ∙ here ∙ ap (λ (is : List ℕ). place_of is c.args.index) c.self.view_is
+    c.self.inside.groups.numbers.items (place_in c.self.inside.others) c.args.index c.self.invariant no_entry no_slot in
+    c.get.ensures ∙ here ∙ ap (λ (is : List ℕ). place_of is c.args.index) c.self.view_is

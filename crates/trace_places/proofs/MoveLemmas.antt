@@ -1,9 +1,9 @@
 -- Indices that move into other groups, or into the map.
-use Rattle.std.proofs.Common.{◌⊎◌, ◌≡◌, ℕ, ◌+◌, ◌<◌, ◌==◌, if◌then◌else◌, inl, inr, List, length, get_or, Option, Some, refl, sym, ap, ◌∙◌, subst, arith}
+use Rattle.std.proofs.Common.{◌⊎◌, ◌≡◌, ℕ, ◌+◌, ◌<◌, ◌==◌, if◌then◌else◌, inl, inr, List, length, get_or, Option, Some, refl, sym, ◌∙◌, subst, arith}
 use Rattle.std.proofs.lemmas.Bool.{cases_lt, cases_eq, cond-true, cond-false, eq-eqb, ne_eqb}
 use Rattle.std.proofs.lemmas.List.{get_or_past}
 use Rattle.clause_defs.specs.Traces.{place_of}
-use Rattle.trace_places.specs.Groups.{AreWithin, StandsInSlot, NoSlots}
+use Rattle.trace_places.specs.Groups.{AreWithin, NoSlots}
 use Rattle.trace_places.specs.Places.{MapsRight, HasAll, AreKept, AreAllKept, IsMoved}
 
 -- slots with one more place

@@ -58,7 +58,7 @@ impl Others {
     pub fn insert(&mut self, index: u32, place: u32) -> Result<(), NoMemory>
         ensures updates { OnOk result
             ((x : ℕ) → place_in self.new x
-                ≡ (if index == x then Some place else place_in self.old x)) }
+            ≡ (if index == x then Some place else place_in self.old x)) }
         ensures unchanged { OnErr result (self.new ≡ self.old) }
     {
         raise(&mut self.marks, index)?;

@@ -1,4 +1,4 @@
-use Rattle.std.proofs.Common.{◌≡◌, ◌<◌, length, get_or, arith}
+use Rattle.std.proofs.Common.{arith}
 use Rattle.trace_places.proofs.OtherLemmas.{raised_still}
 use Rattle.trace_places.proofs.others.raise.Goals as goal
 

@@ -1,0 +1,5 @@
+use Rattle.session_load.proofs.FileNames.{names-utf8}
+use Rattle.session_load.proofs.names.script_names_are_texts.Goals as goal
+
+pub returns : goal.returns
+returns c = names-utf8

@@ -1,0 +1,62 @@
+-- The files of a session: which are loaded, with how many bytes at most, and what they hold.
+use Rattle.std.specs.Prelude.{◌≡◌, ◌⊎◌, ℕ, zero, suc, ◌+◌, ◌-◌, min, List, [], ◌∷◌, length, Option, Ok}
+use Rattle.blif_defs.specs.declared.mark.TheConstants.{MAX_BYTES}
+use Rattle.net_defs.specs.Specifications.{SpecificationOf, IsSpecFault}
+use Rattle.net_defs.specs.declared.specification.SpecError.TheVariants as spec_errors
+use Rattle.pch_io.specs.Outside.{Files, Loads, LoadCause}
+use Rattle.script_defs.specs.declared.command.Kind.{Kind}
+use Rattle.script_defs.specs.declared.command.Kind.TheVariants.{Spec, Bundle}
+use Rattle.script_defs.specs.declared.command.FileUse.{FileUse}
+use Rattle.session_defs.specs.Files.{Contents, specification, delivery}
+use Rattle.session_load.specs.declared.limits.TheConstants.{MAX_DELIVERY_BYTES, MAX_SESSION_BYTES}
+use Rattle.session_load.specs.declared.fault.FileFault.{FileFault}
+use Rattle.session_load.specs.declared.fault.FileFault.TheVariants.{Load, Specification}
+
+-- the most bytes that a file may have that is read as this kind
+abbrev pub kind_limit : Kind → ℕ
+kind_limit Spec = MAX_BYTES
+kind_limit Bundle = MAX_DELIVERY_BYTES
+
+-- the same, or what is left of the limit of all files where those before have so many bytes
+abbrev pub limit_behind : Kind → ℕ → ℕ
+limit_behind kind used = min (kind_limit kind) (MAX_SESSION_BYTES - used)
+
+-- bytes that are read as this kind hold this
+abbrev pub Holds : Kind → List ℕ → Contents → Type 0
+Holds Spec bytes (specification net) = SpecificationOf bytes (Ok net)
+Holds Spec bytes (delivery delivered) = ⊥
+Holds Bundle bytes (specification net) = ⊥
+Holds Bundle bytes (delivery delivered) = delivered ≡ bytes
+
+-- the file has these bytes, which hold this; the files before it have so many bytes
+pub record IsUsable (told : Option Files) (used : ℕ) (u : FileUse) (c : Contents) (bytes : List ℕ) : Type 0 where
+  pub loads : Loads told u.name (limit_behind u.kind used) bytes
+  pub holds : Holds u.kind bytes c
+
+-- the file can be used and has so many bytes
+abbrev pub IsOfSize : Option Files → ℕ → FileUse → Contents → ℕ → Type 0
+IsOfSize told used u c size = (bytes : List ℕ) × IsUsable told used u c bytes × (size ≡ length bytes)
+
+-- all of these files can be used, and this is what they hold; those before them have so many bytes
+abbrev pub AreUsable : Option Files → ℕ → List FileUse → List Contents → Type 0
+AreUsable told used [] [] = Unit {0}
+AreUsable told used [] (c ∷ cs) = ⊥
+AreUsable told used (u ∷ us) [] = ⊥
+AreUsable told used (u ∷ us) (c ∷ cs) =
+    (bytes : List ℕ) × IsUsable told used u c bytes × AreUsable told (used + length bytes) us cs
+
+-- why a file can't be used: a load that gives no bytes, or the fault of a specification, or want of memory; the
+-- store's count of faults was `before` and is `now`
+abbrev pub FileCause : Option Files → (before now used : ℕ) → FileUse → FileFault → Type 0
+FileCause told before now used u (Load fail) = LoadCause told u.name (limit_behind u.kind used) before now fail
+FileCause told before now used u (Specification error) =
+    (u.kind ≡ Spec) × (bytes : List ℕ) × Loads told u.name (limit_behind u.kind used) bytes
+    × ((error ≡ spec_errors.NoMemory) ⊎ IsSpecFault bytes error)
+
+-- the file with this number can't be used, and those before it can
+abbrev pub StopsAt : Option Files → (before now used : ℕ) → List FileUse → ℕ → FileFault → Type 0
+StopsAt told before now used [] file fault = ⊥
+StopsAt told before now used (u ∷ us) zero fault = FileCause told before now used u fault
+StopsAt told before now used (u ∷ us) (suc file) fault =
+    (c : Contents) × (bytes : List ℕ) × IsUsable told used u c bytes
+    × StopsAt told before now (used + length bytes) us file fault

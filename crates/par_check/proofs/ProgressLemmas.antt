@@ -18,7 +18,7 @@ use Rattle.chain_check.specs.declared.room.Room.{Room}
 use Rattle.chain_check.proofs.ClauseLists.{Has-take_more}
 use Rattle.chain_check.proofs.KnownLemmas.{lits_computed, computed_more, computed_stated, sign_right, known_stated, signs_sign, signs_stated}
 use Rattle.chain_check.proofs.RoomLemmas.{aside_over, aside_length}
-use Rattle.par_check.specs.Progress.{IsComputedBy, sizes_before, AreDone, Advances, StaysComputed, IsPart}
+use Rattle.par_check.specs.Progress.{IsComputedBy, sizes_before, AreDone, KeepsUp, Advances, StaysComputed, IsPart}
 use Rattle.par_check.specs.declared.progress.Progress.{Progress}
 
 -- a place that is done is another than one that isn't
@@ -128,6 +128,12 @@ begins_done t room done knows all signs = record {
   counted = knows.total ∙ sym (sizes_none room.computed.clauses (λ p. knows.later p (omega arith)) (length t));
   fits = knows.within;
 }
+
+-- what is done of the trace that the progress is for
+pub done_of : (t : List Entry) (progress : Progress) (room : Room) → progress.t.now ≡ t → KeepsUp progress room
+    → AreDone t room.marks.variables room.limit room.computed.clauses room.computed.total progress.done.items
+done_of t progress room same keeps =
+    subst (λ (u : List Entry). AreDone u room.marks.variables room.limit room.computed.clauses room.computed.total progress.done.items) same keeps.clauses
 
 -- ---- one piece of work after another
 

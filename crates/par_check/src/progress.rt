@@ -1,8 +1,7 @@
-ghost use Rattle.std.specs.Prelude.{◌≡◌, ℕ, ◌+◌, ◌*◌, ◌-◌, ◌^◌, ◌<◌, ◌≤◌, false, true, List, length, get_or, set, slice_get, vec_capacity, IfOk, IfSome, IsTrue};
+ghost use Rattle.std.specs.Prelude.{◌≡◌, ℕ, ◌+◌, ◌*◌, ◌^◌, ◌<◌, ◌≤◌, false, true, length, get_or, slice_get, vec_capacity, IfOk, IfSome};
 ghost use Rattle.std.specs.Bool.{OnTrue};
 ghost use Rattle.std.specs.List.{AllZip};
-ghost use Rattle.clause_defs.specs.Clauses.{Lits, Has};
-ghost use Rattle.clause_defs.specs.Traces.{IsTrace, IsCompactAt, antecedents_at};
+ghost use Rattle.clause_defs.specs.Traces.{IsTrace, IsCompactAt};
 ghost use Rattle.chain_check.specs.Known.{AreOver, literals_at};
 ghost use Rattle.chain_check.specs.Rooms.{IsRoomFor, KnowsBefore, SignsAreRight, StopsAt};
 ghost use Rattle.par_check.specs.Pieces.{piece_begin};

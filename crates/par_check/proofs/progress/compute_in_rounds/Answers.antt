@@ -2,8 +2,8 @@ use Rattle.std.proofs.Common.{ℕ, Bor, List, length, sym, ◌∙◌, ap, subst}
 use Rattle.std.proofs.lemmas.Bool.{OnTrue_at, OnTrue_from}
 use Rattle.clause_defs.specs.Traces.{Entry}
 use Rattle.chain_check.specs.Rooms.{IsRoomFor, SignsAreRight, KnowsBefore}
-use Rattle.par_check.specs.Progress.{AreDone, KeepsUp}
-use Rattle.par_check.proofs.ProgressLemmas.{begins_done, all_right, all_known}
+use Rattle.par_check.specs.Progress.{AreDone}
+use Rattle.par_check.proofs.ProgressLemmas.{begins_done, done_of, all_right, all_known}
 use Rattle.par_check.proofs.progress.compute_in_rounds.Goals as goal
 
 -- at first the clauses with stated literals are done
@@ -26,9 +26,8 @@ returns-clause-right g c =
     let t = c.args.t.now in
     let room = c.compute_rounds.new.room in
     let now = c.compute_rounds.new.self in
-    let kept : KeepsUp now room = OnTrue_at c.if-not-right.false own.done in
     let same = ap (λ (b : Bor (List Entry)). b.now) own.advances.trace ∙ made.trace in
-    let are = subst (λ (u : List Entry). AreDone u room.marks.variables room.limit room.computed.clauses room.computed.total now.done.items) same kept.clauses in
+    let are = done_of t now room same (OnTrue_at c.if-not-right.false own.done) in
     OnTrue_from c.is_complete.result (SignsAreRight t c.args.room.now.limit (length t))
     (λ e. subst (λ (w : ℕ). SignsAreRight t w (length t)) (own.advances.limit ∙ c.clear.ensures.limit)
     (all_right t room.marks.variables room.limit room.computed.clauses room.computed.total now.done.items made.is are (OnTrue_at e c.is_complete.ensures)))
@@ -41,8 +40,7 @@ returns-clause-knows g c =
     let t = c.args.t.now in
     let room = c.compute_rounds.new.room in
     let now = c.compute_rounds.new.self in
-    let kept : KeepsUp now room = OnTrue_at c.if-not-right.false own.done in
     let same = ap (λ (b : Bor (List Entry)). b.now) own.advances.trace ∙ made.trace in
-    let are = subst (λ (u : List Entry). AreDone u room.marks.variables room.limit room.computed.clauses room.computed.total now.done.items) same kept.clauses in
+    let are = done_of t now room same (OnTrue_at c.if-not-right.false own.done) in
     OnTrue_from c.is_complete.result (KnowsBefore t room (length t))
     (λ e. all_known t room now.done.items made.is are (OnTrue_at e c.is_complete.ensures))

@@ -15,10 +15,10 @@ returns-clause-done c =
     let next = c.put_aside.new.self in
     let more = set done c.args.k true in
     let are = subst (λ cs. AreDone t room.marks.variables room.limit cs next.computed.total more) (sym own.clauses)
-        (subst (λ n. AreDone t room.marks.variables room.limit (set room.computed.clauses c.args.k c.args.lits.now) n more) (sym own.total)
-        (one_more t room.computed.clauses done c.args.k c.args.lits.now free room.marks.variables room.limit room.computed.total so_far.clauses
-        (so_far.enough.places c.args.k c.requires.computed.ready.sign) c.requires.computed
-        (let within = own.within in let total = own.total in omega arith))) in
+    (subst (λ n. AreDone t room.marks.variables room.limit (set room.computed.clauses c.args.k c.args.lits.now) n more) (sym own.total)
+    (one_more t room.computed.clauses done c.args.k c.args.lits.now free room.marks.variables room.limit room.computed.total so_far.clauses
+    (so_far.enough.places c.args.k c.requires.computed.ready.sign) c.requires.computed
+    (let within = own.within in let total = own.total in omega arith))) in
     record {
       enough = own.room t so_far.enough;
       clauses = subst (λ v. AreDone t v next.limit next.computed.clauses next.computed.total more) (sym own.variables)

@@ -1,4 +1,4 @@
-use Rattle.std.proofs.Common.{ℕ, List, Bor, get_or, sym, subst, arith}
+use Rattle.std.proofs.Common.{List, Bor, get_or, sym, subst, arith}
 use Rattle.std.proofs.lemmas.Slice.Zip.{AllZip-long}
 use Rattle.clause_defs.specs.Traces.{Entry}
 use Rattle.par_check.specs.Progress.{IsComputedBy}

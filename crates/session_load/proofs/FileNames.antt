@@ -1,8 +1,8 @@
 -- The names of a script's files are words of its text.
-use Rattle.std.proofs.Common.{◌≡◌, ℕ, zero, suc, ◌+◌, ◌<◌, Bool, true, false, cond, ◌&&◌, List, [], ◌∷◌, ◌++◌, length, Option, Some, None, All, refl, sym, subst, ◌∙◌, ◌⊎◌, inl, inr, arith}
+use Rattle.std.proofs.Common.{◌≡◌, ℕ, zero, suc, ◌<◌, Bool, true, false, cond, ◌&&◌, List, [], ◌∷◌, ◌++◌, length, Option, Some, None, All, refl, subst, ◌⊎◌, inl, inr, arith}
 use Rattle.std.specs.Prelude.{nat_lt, nat_le, codes}
 use Rattle.std.specs.List.{list_all, list_any}
-use Rattle.std.specs.Option.{option_map, option_to_list}
+use Rattle.std.specs.Option.{option_map}
 use Rattle.std.specs.Str.{bytes_eq, IsAscii, IsUtf8}
 use Rattle.std.proofs.lemmas.Bool.Decides.{nat_tests}
 use Rattle.std.proofs.lemmas.Str.{IsUtf8-from_ascii}
@@ -19,7 +19,7 @@ use Rattle.script_defs.specs.Scripts.{ScriptValue, same_use}
 use Rattle.script_defs.specs.Lines.{Statement, statements, is_plain}
 use Rattle.text_defs.specs.Numbers.{number_within, positive_within}
 use Rattle.script_defs.specs.Commands.{number_below, max_long, bits_in, Said, plain, named, named_with, named_by, evict_by, cycle_with, cycle_by, sweep_with, sweep_by, plain_by, said_by}
-use Rattle.script_defs.specs.Reading.{Head, nothing, to_fabric, to_slots, to_limit, whole, next_head, Draft, start, all_lanes, mentioned, with_said, with_command_line, with_lane, with_lane_line, with_line, with_words, value_with}
+use Rattle.script_defs.specs.Reading.{Head, nothing, to_fabric, to_slots, to_limit, whole, next_head, Draft, start, all_lanes, with_said, with_command_line, with_lane, with_line, with_words, value_with}
 use Rattle.script_defs.specs.Texts.{Follows, ScriptText}
 
 -- the name is a word

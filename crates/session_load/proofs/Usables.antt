@@ -1,16 +1,18 @@
 -- One file more that can be used.
-use Rattle.std.proofs.Common.{◌≡◌, ℕ, suc, ◌+◌, ◌<◌, ◌≤◌, List, [], ◌∷◌, ◌++◌, length, map, drop, get_or, Option, Some, refl, sym, ap, subst, ◌∙◌, append_assoc, add-one, drop-cons, arith}
+use Rattle.std.proofs.Common.{◌≡◌, ℕ, suc, ◌+◌, ◌<◌, ◌≤◌, List, [], ◌∷◌, ◌++◌, length, map, drop, get_or, Option, Some, sym, ap, subst, ◌∙◌, append_assoc, drop-cons, arith}
 use Rattle.std.specs.List.{slice_get}
 use Rattle.std.proofs.Math.ListN.{drop_of_length-le}
 use Rattle.std.proofs.lemmas.List.{map-append, append-nil}
 use Rattle.std.proofs.lemmas.Option.{slice_get_within, get_or_from_slice_get}
 use Rattle.pch_io.specs.Outside.{Files}
 use Rattle.script_defs.specs.declared.command.FileUse.{FileUse}
-use Rattle.session_defs.specs.Files.{Contents}
+use Rattle.script_defs.specs.declared.command.Kind.{Kind}
+use Rattle.script_defs.specs.declared.command.Kind.TheVariants.{Spec, Bundle}
+use Rattle.session_defs.specs.Files.{Contents, specification, delivery}
 use Rattle.run_actors.specs.declared.loaded.Loaded.{Loaded}
-use Rattle.run_actors.specs.Loading.{contents_of}
+use Rattle.run_actors.specs.Loading.{contents_of, IsOfKind, AreLoaded}
 use Rattle.session_load.specs.declared.fault.FileFault.{FileFault}
-use Rattle.session_load.specs.Usable.{IsUsable, IsOfSize, AreUsable, FileCause, StopsAt}
+use Rattle.session_load.specs.Usable.{Holds, IsOfSize, AreUsable, FileCause, StopsAt}
 
 -- the elements that are left
 drop-next : {X : Type 0} (xs : List X) (i : ℕ) (x : X) → slice_get xs i ≡ Some x → drop i xs ≡ x ∷ drop (i + 1) xs
@@ -39,7 +41,7 @@ completes-next told used size i uses u files loaded found usable so_far more lon
     let left : drop i uses ≡ u ∷ drop (i + 1) uses = drop-next uses i u found in
     let done : List Contents = map contents_of files in
     let joined : done ++ (contents_of loaded ∷ rest) ≡ map contents_of more ++ rest =
-    sym (ap (λ ls. map contents_of ls ++ rest) longer ∙  ap (λ cs. cs ++ rest) (map-append contents_of files (loaded ∷ []))
+    sym (ap (λ ls. map contents_of ls ++ rest) longer ∙ ap (λ cs. cs ++ rest) (map-append contents_of files (loaded ∷ []))
     ∙ append_assoc done (contents_of loaded ∷ []) rest) in
     subst (AreUsable told 0 uses) joined
     (so_far (contents_of loaded ∷ rest)
@@ -73,3 +75,23 @@ pub completes-all : (told : Option Files) (used i : ℕ) (uses : List FileUse) (
 completes-all told used i uses files past so_far =
     subst (AreUsable told 0 uses) (append-nil (map contents_of files))
     (so_far [] (subst (λ us. AreUsable told used us []) (sym (drop_of_length-le uses past)) tt))
+
+-- ---- kinds
+
+-- what is used as a kind is of that kind
+held-kind : (kind : Kind) (bytes : List ℕ) (c : Contents) → Holds kind bytes c → IsOfKind kind c
+held-kind Spec bytes (specification net) held = tt
+held-kind Spec bytes (delivery delivered) held = held
+held-kind Bundle bytes (specification net) held = held
+held-kind Bundle bytes (delivery delivered) held = tt
+
+-- so all files are loaded as what they are used as
+pub usable-loaded : (told : Option Files) (used : ℕ) (uses : List FileUse) (files : List Contents)
+    → AreUsable told used uses files → AreLoaded uses files
+usable-loaded told used [] [] usable = tt
+usable-loaded told used [] (c ∷ files) usable = usable
+usable-loaded told used (u ∷ uses) [] usable = usable
+usable-loaded told used (u ∷ uses) (c ∷ files) usable = (
+  held-kind u.kind usable.0 c usable.1.holds,
+  usable-loaded told (used + length usable.0) uses files usable.2,
+)

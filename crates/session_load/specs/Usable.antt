@@ -9,8 +9,21 @@ use Rattle.script_defs.specs.declared.command.Kind.TheVariants.{Spec, Bundle}
 use Rattle.script_defs.specs.declared.command.FileUse.{FileUse}
 use Rattle.session_defs.specs.Files.{Contents, specification, delivery}
 use Rattle.session_load.specs.declared.limits.TheConstants.{MAX_DELIVERY_BYTES, MAX_SESSION_BYTES}
+use Rattle.script_defs.specs.declared.error.ScriptError.TheVariants as script_errors
+use Rattle.script_defs.specs.declared.limits.TheConstants.{MAX_SCRIPT_BYTES}
+use Rattle.script_defs.specs.Texts.{ScriptFault}
+use Rattle.session_load.specs.declared.fault.NoScript.{NoScript}
+use Rattle.session_load.specs.declared.fault.NoScript.TheVariants.{Load as NoLoad, Read as NoRead}
 use Rattle.session_load.specs.declared.fault.FileFault.{FileFault}
 use Rattle.session_load.specs.declared.fault.FileFault.TheVariants.{Load, Specification}
+
+-- why there is no script of this name: a load that gives no bytes, or the fault of its text, or want of memory; the
+-- store's count of faults was `before` and is `now`
+abbrev pub ScriptCause : Option Files → (before now : ℕ) → List ℕ → NoScript → Type 0
+ScriptCause told before now name (NoLoad fail) = LoadCause told name MAX_SCRIPT_BYTES before now fail
+ScriptCause told before now name (NoRead error) =
+    (bytes : List ℕ) × Loads told name MAX_SCRIPT_BYTES bytes
+    × ((error ≡ script_errors.NoMemory) ⊎ ScriptFault bytes error)
 
 -- the most bytes that a file may have that is read as this kind
 abbrev pub kind_limit : Kind → ℕ

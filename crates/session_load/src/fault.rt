@@ -1,5 +1,15 @@
 use netlist::SpecError;
 use pch_io::LoadFail;
+use run_script::ScriptError;
+
+/// Why there is no script.
+#[derive(Clone, Copy, Debug)]
+pub enum NoScript {
+    /// The store gave no bytes, or memory was wanting.
+    Load(LoadFail),
+    /// The text has this first fault, or memory was wanting.
+    Read(ScriptError),
+}
 
 /// Why a file of a session can't be used.
 #[derive(Clone, Copy, Debug)]

@@ -1,8 +1,8 @@
-ghost use Rattle.std.specs.Prelude.{◌≡◌, ◌≤◌, ◌+◌, ◌⊎◌, ℕ, List, All, length, map, [], ◌∷◌, ◌++◌, IfOk, IfErr, OnOk};
+ghost use Rattle.std.specs.Prelude.{◌≡◌, ◌<◌, ◌≤◌, ◌+◌, ◌⊎◌, ℕ, List, All, length, map, [], ◌∷◌, ◌++◌, IfOk, IfErr, OnOk};
 ghost use Rattle.std.specs.Str.{IsUtf8};
 ghost use Rattle.script_defs.specs.declared.command.FileUse.{FileUse as Use};
 ghost use Rattle.script_defs.specs.declared.command.Kind.TheVariants as kinds;
-ghost use Rattle.run_actors.specs.Loading.{contents_of};
+ghost use Rattle.run_actors.specs.Loading.{contents_of, AreLoaded};
 ghost use Rattle.run_actors.specs.declared.loaded.Loaded.{Loaded as LoadedFile};
 ghost use Rattle.pch_io.specs.declared.store.LoadFail.TheVariants.{NoMemory as NoMemoryToLoad};
 ghost use Rattle.session_load.specs.declared.fault.FileFault.TheVariants.{Load};
@@ -136,6 +136,8 @@ pub fn load_files<S: Store>(
     ensures files { S.files store.new ≡ S.files store.old }
     ensures calm { OnOk result (S.faults store.new ≡ S.faults store.old) }
     ensures usable { IfOk result (λ l. AreUsable (S.files store.old) 0 uses.now (map contents_of l.items)) }
+    ensures kinds { IfOk result (λ l. AreLoaded uses.now (map contents_of l.items)) }
+    ensures number { IfErr result (λ n. n.file < length uses.now) }
     ensures fault { IfErr result (λ n. StopsAt (S.files store.old) (S.faults store.old) (S.faults store.new)
         0 uses.now n.file n.fault) }
 {

@@ -1,7 +1,7 @@
-//! The files of a session, loaded in the order of their first mention.
+//! The script of a session, and its files in the order of their first mention.
 //!
-//! What comes in are a store and the uses of files that a script has; what goes out are the loaded
-//! files, each read as what it is used as, or the first one that can't be used and why. Each
+//! `load_script` loads a script and reads it. For the uses of files that it has, `load_files` gives
+//! the loaded files, each read as what it is used as, or the first one that can't be used and why. Each
 //! specification is read once it is loaded. `specs/Usable` says which files can be used.
 #![tactic(auto)]
 
@@ -9,8 +9,12 @@ mod fault;
 mod files;
 mod limits;
 mod names;
+mod script;
+#[cfg(test)]
+mod tests;
 
-pub use fault::{FileFault, NotUsable};
+pub use fault::{FileFault, NoScript, NotUsable};
 pub use files::load_files;
 pub use limits::{MAX_DELIVERY_BYTES, MAX_SESSION_BYTES};
 pub use names::script_names_are_texts;
+pub use script::load_script;

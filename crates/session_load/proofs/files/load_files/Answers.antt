@@ -1,12 +1,12 @@
-use Rattle.std.proofs.Common.{◌≡◌, ℕ, List, [], ◌∷◌, ◌++◌, length, map, drop, All, Some, refl, sym, ap, subst, ◌∙◌}
+use Rattle.std.proofs.Common.{◌≡◌, length, map, Some, refl, sym, subst, ◌∙◌}
 use Rattle.std.specs.List.{slice_get}
 use Rattle.std.specs.Str.{IsUtf8}
 use Rattle.std.proofs.lemmas.List.Elements.{All-get_or}
 use Rattle.std.proofs.lemmas.Option.{slice_get_read}
 use Rattle.script_defs.specs.declared.command.FileUse.{FileUse}
 use Rattle.run_actors.specs.Loading.{contents_of}
-use Rattle.session_load.specs.Usable.{IsOfSize, FileCause, StopsAt}
-use Rattle.session_load.proofs.Usables.{completes-next, stops-next, stops-here, completes-all}
+use Rattle.session_load.specs.Usable.{IsOfSize, FileCause}
+use Rattle.session_load.proofs.Usables.{completes-next, stops-next, stops-here, completes-all, usable-loaded}
 use Rattle.session_load.proofs.files.load_files.Goals as goal
 
 pub load_next-requires-clause-name : goal.load_next-requires-clause-name
@@ -52,3 +52,9 @@ pub returns-clause-usable : goal.returns-clause-usable
 returns-clause-usable g c =
     completes-all (g.S.Store.files c.args.store.now) c.loop-i.used c.loop-i.i c.args.uses.now c.loop-i.files.items
     c.loop-i-test.false c.loop-i.invariant.usable
+
+pub returns-clause-kinds : goal.returns-clause-kinds
+returns-clause-kinds g c =
+    usable-loaded (g.S.Store.files c.args.store.now) 0 c.args.uses.now (map contents_of c.loop-i.files.items)
+    (completes-all (g.S.Store.files c.args.store.now) c.loop-i.used c.loop-i.i c.args.uses.now c.loop-i.files.items
+    c.loop-i-test.false c.loop-i.invariant.usable)

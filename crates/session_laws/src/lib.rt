@@ -1,6 +1,6 @@
 //! What follows from being a transcript, as laws that other crates cite: the journal that its lines
-//! mean is legal, so that each output in it is one of the agreed specification, and in a script of one
-//! lane each point is the number of entries so far.
+//! mean is legal, so that each output in it is one of the agreed specification, and in a script of
+//! one lane each point is the number of entries so far.
 #![tactic(auto)]
 
 mod laws;

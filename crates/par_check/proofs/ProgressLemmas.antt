@@ -1,5 +1,5 @@
 -- From clauses that are computed each after its antecedents to what is known of the whole trace.
-use Rattle.std.proofs.Common.{◌≡◌, ℕ, zero, suc, ◌+◌, ◌*◌, ◌<◌, ◌≤◌, inl, inr, Bool, true, false, List, [], ◌∷◌, ◌++◌, length, get_or, set, take, slice_get, Option, Some, None, Result, Ok, Err, IfSome, refl, sym, ◌∙◌, ap, subst, arith, get_or-set_same, get_or-set_other}
+use Rattle.std.proofs.Common.{◌≡◌, ℕ, zero, suc, ◌+◌, ◌*◌, ◌<◌, ◌≤◌, inl, inr, Bool, true, false, Bor, List, [], ◌∷◌, ◌++◌, length, get_or, set, take, slice_get, Option, Some, None, Result, Ok, Err, IfSome, refl, sym, ◌∙◌, ap, subst, arith, get_or-set_same, get_or-set_other}
 use Rattle.std.proofs.lemmas.Bool.{true≢false, cases_order, cases_eq}
 use Rattle.std.proofs.lemmas.List.{length-set, get_or_past}
 use Rattle.std.specs.List.{AllZip, range_with_len}
@@ -13,12 +13,13 @@ use Rattle.pch_base.specs.declared.memory.NoMemory.{NoMemory}
 use Rattle.clause_laws.proofs.TraceLits.{map_same}
 use Rattle.chain_check.specs.Aside.{ChainGives}
 use Rattle.chain_check.specs.Known.{stated_else, literals_at, AreLiteralsOf, AreOver, IsKnownBefore, signs_before}
-use Rattle.chain_check.specs.Rooms.{KnowsBefore, SignsAreRight}
+use Rattle.chain_check.specs.Rooms.{IsRoomFor, KnowsBefore, SignsAreRight}
 use Rattle.chain_check.specs.declared.room.Room.{Room}
 use Rattle.chain_check.proofs.ClauseLists.{Has-take_more}
 use Rattle.chain_check.proofs.KnownLemmas.{lits_computed, computed_more, computed_stated, sign_right, known_stated, signs_sign, signs_stated}
 use Rattle.chain_check.proofs.RoomLemmas.{aside_over, aside_length}
-use Rattle.par_check.specs.Progress.{IsComputedBy, sizes_before, AreDone, IsPart}
+use Rattle.par_check.specs.Progress.{IsComputedBy, sizes_before, AreDone, KeepsUp, Advances, StaysComputed, IsPart}
+use Rattle.par_check.specs.declared.progress.Progress.{Progress}
 
 -- a place that is done is another than one that isn't
 other_place : (done : List Bool) (k p : ℕ) → get_or done k false ≡ false → get_or done p false ≡ true → p ≡ k → ⊥
@@ -127,6 +128,30 @@ begins_done t room done knows all signs = record {
   counted = knows.total ∙ sym (sizes_none room.computed.clauses (λ p. knows.later p (omega arith)) (length t));
   fits = knows.within;
 }
+
+-- what is done of the trace that the progress is for
+pub done_of : (t : List Entry) (progress : Progress) (room : Room) → progress.t.now ≡ t → KeepsUp progress room
+    → AreDone t room.marks.variables room.limit room.computed.clauses room.computed.total progress.done.items
+done_of t progress room same keeps =
+    subst (λ (u : List Entry). AreDone u room.marks.variables room.limit room.computed.clauses room.computed.total progress.done.items) same keeps.clauses
+
+-- ---- one piece of work after another
+
+module _ (was mid now : Progress) (first second third : Room) where
+  -- the trace, the limit and the variables stay the same
+  pub advances_on : Advances was mid first second → Advances mid now second third → Advances was now first third
+  advances_on a b = record {
+    trace = b.trace ∙ a.trace;
+    enough = subst (λ (t : Bor (List Entry)). IsRoomFor t.now third) a.trace b.enough;
+    limit = b.limit ∙ a.limit;
+    variables = b.variables ∙ a.variables;
+  }
+
+  -- and so does what was computed
+  pub stays_on : Advances was mid first second → StaysComputed was mid first second → StaysComputed mid now second third → StaysComputed was now first third
+  stays_on a first_stays then_stays j ls h =
+      subst (λ (t : Bor (List Entry)). IsComputedBy t.now third.computed.clauses now.done.items j ls) a.trace
+      (then_stays j ls (subst (λ (t : Bor (List Entry)). IsComputedBy t.now second.computed.clauses mid.done.items j ls) (sym a.trace) (first_stays j ls h)))
 
 -- ---- all clauses
 

@@ -1,12 +1,11 @@
-ghost use Rattle.std.specs.Prelude.{◌≡◌, ℕ, ◌+◌, ◌*◌, ◌-◌, ◌^◌, ◌<◌, ◌≤◌, false, true, List, length, get_or, set, slice_get, vec_capacity, IfOk, IfSome, IsTrue};
+ghost use Rattle.std.specs.Prelude.{◌≡◌, ℕ, ◌+◌, ◌*◌, ◌^◌, ◌<◌, ◌≤◌, false, true, length, get_or, slice_get, vec_capacity, IfOk, IfSome};
 ghost use Rattle.std.specs.Bool.{OnTrue};
 ghost use Rattle.std.specs.List.{AllZip};
-ghost use Rattle.clause_defs.specs.Clauses.{Lits, Has};
-ghost use Rattle.clause_defs.specs.Traces.{IsTrace, IsCompactAt, antecedents_at};
+ghost use Rattle.clause_defs.specs.Traces.{IsTrace, IsCompactAt};
 ghost use Rattle.chain_check.specs.Known.{AreOver, literals_at};
 ghost use Rattle.chain_check.specs.Rooms.{IsRoomFor, KnowsBefore, SignsAreRight, StopsAt};
 ghost use Rattle.par_check.specs.Pieces.{piece_begin};
-ghost use Rattle.par_check.specs.Progress.{IsReady, IsComputedBy, AreDone, places_of, IsPart};
+ghost use Rattle.par_check.specs.Progress.{IsReady, IsComputedBy, KeepsUp, Advances, StaysComputed, IsDeskFor, IsSameDesk, places_of, IsPart};
 
 use crate::pieces::piece_begin;
 use crate::rounds::Rounds;
@@ -86,8 +85,7 @@ struct Desk {
 impl Desk {
     /// A desk for the variables of the room.
     fn new(alloc: Global, room: &Room) -> Result<Desk, NoMemory>
-        ensures variables { IfOk result (λ d. d.marks.variables ≡ room.now.marks.variables) }
-        ensures room { IfOk result (λ d. 2 * d.marks.variables ≤ vec_capacity d.clause) }
+        ensures { IfOk result (λ desk. IsDeskFor room.now desk) }
     {
         Ok(Desk {
             marks: room.more_marks(alloc)?,
@@ -165,8 +163,7 @@ impl<'a> Progress<'a> {
         ensures lists { IfOk result (λ found. IfSome found (λ lists. AllZip
             (IsComputedBy self.now.t.now room.now.computed.clauses self.now.done.items)
             places.now lists.lists)) }
-        ensures variables { desk.new.marks.variables ≡ desk.old.marks.variables }
-        ensures room { vec_capacity desk.new.clause ≡ vec_capacity desk.old.clause }
+        ensures desk { IsSameDesk desk.old desk.new }
     {
         let mut lists = FlatLists::new(alloc);
         for &k in places {
@@ -183,21 +180,12 @@ impl<'a> Progress<'a> {
 
     /// Keeps the literals of the clause at place `k`, if it had none and there is leave.
     fn keep(&mut self, room: &mut Room, k: u32, lits: &[Lit]) -> bool
-        requires room { IsRoomFor self.old.t.now room.old }
-        requires done { AreDone self.old.t.now room.old.marks.variables room.old.limit
-            room.old.computed.clauses room.old.computed.total self.old.done.items }
+        requires so_far { KeepsUp self.old room.old }
         requires computed { IsComputedBy self.old.t.now room.old.computed.clauses
             self.old.done.items k lits.now }
-        ensures trace { self.new.t ≡ self.old.t }
-        ensures room { IsRoomFor self.old.t.now room.new }
-        ensures limit { room.new.limit ≡ room.old.limit }
-        ensures variables { room.new.marks.variables ≡ room.old.marks.variables }
-        ensures done { OnTrue result (AreDone self.old.t.now room.old.marks.variables
-            room.old.limit room.new.computed.clauses room.new.computed.total
-            self.new.done.items) }
-        ensures later { OnTrue result ((j : ℕ) (ls : Lits)
-            → IsComputedBy self.old.t.now room.old.computed.clauses self.old.done.items j ls
-            → IsComputedBy self.old.t.now room.new.computed.clauses self.new.done.items j ls) }
+        ensures advances { Advances self.old self.new room.old room.new }
+        ensures done { OnTrue result (KeepsUp self.new room.new) }
+        ensures later { OnTrue result (StaysComputed self.old self.new room.old room.new) }
     {
         if self.done[k as usize] || !room.put_aside(k, lits) {
             return false;
@@ -208,22 +196,13 @@ impl<'a> Progress<'a> {
 
     /// Keeps the literals of the clauses at these places, if they had none and there is leave.
     fn keep_list(&mut self, room: &mut Room, places: &[u32], lists: &FlatLists<Lit>) -> bool
-        requires room { IsRoomFor self.old.t.now room.old }
-        requires done { AreDone self.old.t.now room.old.marks.variables room.old.limit
-            room.old.computed.clauses room.old.computed.total self.old.done.items }
+        requires so_far { KeepsUp self.old room.old }
         requires lists { AllZip
             (IsComputedBy self.old.t.now room.old.computed.clauses self.old.done.items)
             places.now lists.now.lists }
-        ensures trace { self.new.t ≡ self.old.t }
-        ensures room { IsRoomFor self.old.t.now room.new }
-        ensures limit { room.new.limit ≡ room.old.limit }
-        ensures variables { room.new.marks.variables ≡ room.old.marks.variables }
-        ensures done { OnTrue result (AreDone self.old.t.now room.old.marks.variables
-            room.old.limit room.new.computed.clauses room.new.computed.total
-            self.new.done.items) }
-        ensures later { OnTrue result ((j : ℕ) (ls : Lits)
-            → IsComputedBy self.old.t.now room.old.computed.clauses self.old.done.items j ls
-            → IsComputedBy self.old.t.now room.new.computed.clauses self.new.done.items j ls) }
+        ensures advances { Advances self.old self.new room.old room.new }
+        ensures done { OnTrue result (KeepsUp self.new room.new) }
+        ensures later { OnTrue result (StaysComputed self.old self.new room.old room.new) }
     {
         for i in 0..lists.len() {
             if !self.keep(room, places[i as usize], lists.get(i)) {
@@ -244,18 +223,10 @@ impl<'a> Progress<'a> {
         desk: &mut Desk,
     ) -> Result<bool, NoMemory>
         requires pieces { 1 ≤ pieces }
-        requires room { IsRoomFor self.old.t.now room.old }
-        requires done { AreDone self.old.t.now room.old.marks.variables room.old.limit
-            room.old.computed.clauses room.old.computed.total self.old.done.items }
-        requires variables { desk.old.marks.variables ≡ room.old.marks.variables }
-        requires clause { 2 * desk.old.marks.variables ≤ vec_capacity desk.old.clause }
-        ensures trace { self.new.t ≡ self.old.t }
-        ensures room { IsRoomFor self.old.t.now room.new }
-        ensures limit { room.new.limit ≡ room.old.limit }
-        ensures variables { room.new.marks.variables ≡ room.old.marks.variables }
-        ensures done { IfOk result (λ right. OnTrue right (AreDone self.old.t.now
-            room.old.marks.variables room.old.limit room.new.computed.clauses
-            room.new.computed.total self.new.done.items)) }
+        requires so_far { KeepsUp self.old room.old }
+        requires desk { IsDeskFor room.old desk.old }
+        ensures advances { Advances self.old self.new room.old room.new }
+        ensures done { IfOk result (λ right. OnTrue right (KeepsUp self.new room.new)) }
     {
         for r in 1..rounds.len() {
             let parts = rounds.workers(r, pieces);
@@ -277,20 +248,11 @@ impl<'a> Progress<'a> {
         desk: &mut Desk,
     ) -> Result<bool, NoMemory>
         requires few { length places.now + 1 < 2 ^ 32 }
-        requires room { IsRoomFor self.old.t.now room.old }
-        requires done { AreDone self.old.t.now room.old.marks.variables room.old.limit
-            room.old.computed.clauses room.old.computed.total self.old.done.items }
-        requires variables { desk.old.marks.variables ≡ room.old.marks.variables }
-        requires clause { 2 * desk.old.marks.variables ≤ vec_capacity desk.old.clause }
-        ensures trace { self.new.t ≡ self.old.t }
-        ensures room { IsRoomFor self.old.t.now room.new }
-        ensures limit { room.new.limit ≡ room.old.limit }
-        ensures variables { room.new.marks.variables ≡ room.old.marks.variables }
-        ensures done { IfOk result (λ right. OnTrue right (AreDone self.old.t.now
-            room.old.marks.variables room.old.limit room.new.computed.clauses
-            room.new.computed.total self.new.done.items)) }
-        ensures desk_variables { desk.new.marks.variables ≡ desk.old.marks.variables }
-        ensures desk_clause { vec_capacity desk.new.clause ≡ vec_capacity desk.old.clause }
+        requires so_far { KeepsUp self.old room.old }
+        requires desk { IsDeskFor room.old desk.old }
+        ensures advances { Advances self.old self.new room.old room.new }
+        ensures done { IfOk result (λ right. OnTrue right (KeepsUp self.new room.new)) }
+        ensures desk { IsSameDesk desk.old desk.new }
     {
         if parts > 1 {
             self.compute_apart(rt, alloc, room, places, parts)
@@ -309,20 +271,11 @@ impl<'a> Progress<'a> {
         desk: &mut Desk,
     ) -> Result<bool, NoMemory>
         requires few { length places.now + 1 < 2 ^ 32 }
-        requires room { IsRoomFor self.old.t.now room.old }
-        requires done { AreDone self.old.t.now room.old.marks.variables room.old.limit
-            room.old.computed.clauses room.old.computed.total self.old.done.items }
-        requires variables { desk.old.marks.variables ≡ room.old.marks.variables }
-        requires clause { 2 * desk.old.marks.variables ≤ vec_capacity desk.old.clause }
-        ensures trace { self.new.t ≡ self.old.t }
-        ensures room { IsRoomFor self.old.t.now room.new }
-        ensures limit { room.new.limit ≡ room.old.limit }
-        ensures variables { room.new.marks.variables ≡ room.old.marks.variables }
-        ensures done { IfOk result (λ right. OnTrue right (AreDone self.old.t.now
-            room.old.marks.variables room.old.limit room.new.computed.clauses
-            room.new.computed.total self.new.done.items)) }
-        ensures desk_variables { desk.new.marks.variables ≡ desk.old.marks.variables }
-        ensures desk_clause { vec_capacity desk.new.clause ≡ vec_capacity desk.old.clause }
+        requires so_far { KeepsUp self.old room.old }
+        requires desk { IsDeskFor room.old desk.old }
+        ensures advances { Advances self.old self.new room.old room.new }
+        ensures done { IfOk result (λ right. OnTrue right (KeepsUp self.new room.new)) }
+        ensures desk { IsSameDesk desk.old desk.new }
     {
         let most = room.leave();
         match self.compute_list(alloc, room, places, most, desk)? {
@@ -343,16 +296,9 @@ impl<'a> Progress<'a> {
     ) -> Result<bool, NoMemory>
         requires few { length places.now + 1 < 2 ^ 32 }
         requires some { 2 ≤ parts }
-        requires room { IsRoomFor self.old.t.now room.old }
-        requires done { AreDone self.old.t.now room.old.marks.variables room.old.limit
-            room.old.computed.clauses room.old.computed.total self.old.done.items }
-        ensures trace { self.new.t ≡ self.old.t }
-        ensures room { IsRoomFor self.old.t.now room.new }
-        ensures limit { room.new.limit ≡ room.old.limit }
-        ensures variables { room.new.marks.variables ≡ room.old.marks.variables }
-        ensures done { IfOk result (λ right. OnTrue right (AreDone self.old.t.now
-            room.old.marks.variables room.old.limit room.new.computed.clauses
-            room.new.computed.total self.new.done.items)) }
+        requires so_far { KeepsUp self.old room.old }
+        ensures advances { Advances self.old self.new room.old room.new }
+        ensures done { IfOk result (λ right. OnTrue right (KeepsUp self.new room.new)) }
     {
         let found = self.compute_parts(rt, alloc, room, places, parts)?;
         self.keep_parts(room, places, parts, &found)
@@ -369,19 +315,12 @@ impl<'a> Progress<'a> {
     ) -> Result<bool, NoMemory>
         requires few { length places.now + 1 < 2 ^ 32 }
         requires all { length found.now ≡ parts }
-        requires room { IsRoomFor self.old.t.now room.old }
-        requires done { AreDone self.old.t.now room.old.marks.variables room.old.limit
-            room.old.computed.clauses room.old.computed.total self.old.done.items }
+        requires so_far { KeepsUp self.old room.old }
         requires found { (p : ℕ) → IfSome (slice_get found.now p)
             (λ part. IsPart self.old.t.now room.old.computed.clauses self.old.done.items
             (places_of places.now parts p) part) }
-        ensures trace { self.new.t ≡ self.old.t }
-        ensures room { IsRoomFor self.old.t.now room.new }
-        ensures limit { room.new.limit ≡ room.old.limit }
-        ensures variables { room.new.marks.variables ≡ room.old.marks.variables }
-        ensures done { IfOk result (λ right. OnTrue right (AreDone self.old.t.now
-            room.old.marks.variables room.old.limit room.new.computed.clauses
-            room.new.computed.total self.new.done.items)) }
+        ensures advances { Advances self.old self.new room.old room.new }
+        ensures done { IfOk result (λ right. OnTrue right (KeepsUp self.new room.new)) }
     {
         for p in 0..parts {
             let right = self.keep_part(room, part(places, parts, p), &found[p as usize])?;
@@ -399,21 +338,13 @@ impl<'a> Progress<'a> {
         places: &[u32],
         found: &Result<Option<FlatLists<Lit>>, NoMemory>,
     ) -> Result<bool, NoMemory>
-        requires room { IsRoomFor self.old.t.now room.old }
-        requires done { AreDone self.old.t.now room.old.marks.variables room.old.limit
-            room.old.computed.clauses room.old.computed.total self.old.done.items }
+        requires so_far { KeepsUp self.old room.old }
         requires found { IsPart self.old.t.now room.old.computed.clauses self.old.done.items
             places.now found.now }
-        ensures trace { self.new.t ≡ self.old.t }
-        ensures room { IsRoomFor self.old.t.now room.new }
-        ensures limit { room.new.limit ≡ room.old.limit }
-        ensures variables { room.new.marks.variables ≡ room.old.marks.variables }
-        ensures done { IfOk result (λ right. OnTrue right (AreDone self.old.t.now
-            room.old.marks.variables room.old.limit room.new.computed.clauses
-            room.new.computed.total self.new.done.items)) }
-        ensures later { IfOk result (λ right. OnTrue right ((j : ℕ) (ls : Lits)
-            → IsComputedBy self.old.t.now room.old.computed.clauses self.old.done.items j ls
-            → IsComputedBy self.old.t.now room.new.computed.clauses self.new.done.items j ls)) }
+        ensures advances { Advances self.old self.new room.old room.new }
+        ensures done { IfOk result (λ right. OnTrue right (KeepsUp self.new room.new)) }
+        ensures later { IfOk result
+            (λ right. OnTrue right (StaysComputed self.old self.new room.old room.new)) }
     {
         match found {
             Ok(Some(lists)) => Ok(self.keep_list(room, places, lists)),

@@ -433,12 +433,12 @@ decided form old new before after status told t files is_told loaded (inl w) is 
     loaded_one t (files_of form) w.files files (subst (λ f. L f w.files) is_told w.loaded) (subst (λ f. L f files) is_told loaded) in
     elim w.saved [
       | inl s ↦ inl (
-          w.outcome,
-          subst (λ bs. FilesDue form bs w.outcome) same w.due,
-          is ∙ status_of told w.outcome s.1,
-          subst (λ (x : List ℕ). Appends before.held after.held x) (ap (λ (x : Outcome). x.text) s.1) put,
-          s.0,
-        )
+        w.outcome,
+        subst (λ bs. FilesDue form bs w.outcome) same w.due,
+        is ∙ status_of told w.outcome s.1,
+        subst (λ (x : List ℕ). Appends before.held after.held x) (ap (λ (x : Outcome). x.text) s.1) put,
+        s.0,
+      )
       | inr s ↦ inr (inl (is ∙ status_of told _ s.3, s.2.counted))
     ]
 decided form old new before after status told t files is_told loaded (inr s) is put =

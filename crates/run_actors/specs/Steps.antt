@@ -38,8 +38,8 @@ pub record AnswersAlone (files : List Contents) (from : ℕ) (command : Command)
   pub within : after reply ≤ length t.journal
 
 -- there is room in the journal, and the command of this turn makes this entry after it
-pub record Makes (files : List Contents) (at : Turn) (command : Command) (reply : ReplyValue) (t : TableValue) (e : EntryValue)
-    : Type 0 where
+pub record Makes (files : List Contents) (at : Turn) (command : Command) (reply : ReplyValue) (t : TableValue)
+    (e : EntryValue) : Type 0 where
   pub room : length t.journal < t.limit
   pub lane : e.lane ≡ at.lane
   pub turn : e.turn ≡ at.number

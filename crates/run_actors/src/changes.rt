@@ -26,7 +26,8 @@ impl Device {
         requires { slot < self.old.slots }
         ensures { IfOk result (λ r. (files : List Contents) (file : ℕ)
             → DescribesNet files file (arc_value net.now)
-            → Answered files (length self.old.journal) at (Agree slot file) (reply_of r) self.old self.new) }
+            → Answered files (length self.old.journal) at (Agree slot file) (reply_of r)
+            self.old self.new) }
     {
         if self.is_full() {
             return Ok(Reply::Full {
@@ -48,7 +49,8 @@ impl Device {
     pub(crate) fn evict(&mut self, at: Turn, slot: u32) -> Result<Reply, NoMemory>
         requires { slot < self.old.slots }
         ensures { IfOk result (λ r. (files : List Contents)
-            → Answered files (length self.old.journal) at (Evict slot) (reply_of r) self.old self.new) }
+            → Answered files (length self.old.journal) at (Evict slot) (reply_of r)
+            self.old self.new) }
     {
         if self.is_full() {
             return Ok(Reply::Full {
@@ -87,8 +89,8 @@ impl Device {
         }
     }
 
-    /// Installs in the slot the configuration of a bundle that was accepted for a net, which was the
-    /// agreed one after `checked` entries.
+    /// Installs in the slot the configuration of a bundle that was accepted for a net. This net was
+    /// the agreed one after `checked` entries.
     pub(crate) fn install(
         &mut self,
         at: Turn,

@@ -46,7 +46,8 @@ pub(crate) fn deliver<R: Threads + Wait + Sync, G: Gate>(
     requires workers { workers ≤ 64 }
     requires slot { slot < device.old.slots }
     requires file { IsBundle (map contents_of files.now) file }
-    ensures { IfOk result (λ r. Answered (map contents_of files.now) (length device.old.journal) at (Deliver slot file) (reply_of r) device.old device.new) }
+    ensures { IfOk result (λ r. Answered (map contents_of files.now) (length device.old.journal) at
+        (Deliver slot file) (reply_of r) device.old device.new) }
 {
     let checked = device.entries();
     let Some(net) = device.ticket(slot)? else {

@@ -31,7 +31,8 @@ impl Model for Device {
 
     ghost view = { λ d. d.table };
 
-    ghost invariant = { λ d. (d.wires.geometry ≡ d.table.geometry) × (d.lane_wires ≡ d.table.geometry) };
+    ghost invariant = { λ d. (d.wires.geometry ≡ d.table.geometry)
+        × (d.lane_wires ≡ d.table.geometry) };
 }
 
 impl Device {

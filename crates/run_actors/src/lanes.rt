@@ -31,9 +31,11 @@ fn run_command<R: Threads + Wait + Sync, G: Gate>(
 ) -> Result<Reply, NoMemory>
     requires some_worker { 1 ≤ workers }
     requires workers { workers ≤ 64 }
-    requires command { CanRun device.old.geometry device.old.slots (map contents_of files.now) command.now }
+    requires command { CanRun device.old.geometry device.old.slots (map contents_of files.now)
+        command.now }
     ensures device { OnOk result (IsSameDevice device.old device.new) }
-    ensures reply { IfOk result (λ r. Answered (map contents_of files.now) (length device.old.journal) at command.now (reply_of r) device.old device.new) }
+    ensures reply { IfOk result (λ r. Answered (map contents_of files.now)
+        (length device.old.journal) at command.now (reply_of r) device.old device.new) }
 {
     match command {
         Command::Agree { slot, file } => {
@@ -67,10 +69,12 @@ pub(crate) fn run_lane<R: Threads + Wait + Sync, G: Gate>(
     requires some_worker { 1 ≤ workers }
     requires workers { workers ≤ 64 }
     requires few { length commands.now ≤ 65536 }
-    requires commands { All (CanRun device.old.geometry device.old.slots (map contents_of files.now)) commands.now }
+    requires commands { All
+        (CanRun device.old.geometry device.old.slots (map contents_of files.now)) commands.now }
     ensures printable { IfOk result (λ replies. All IsPrintable (map reply_of replies)) }
     ensures device { OnOk result (IsSameDevice device.old device.new) }
-    ensures replies { IfOk result (λ replies. RunsLane (map contents_of files.now) lane commands.now (map reply_of replies) device.old device.new) }
+    ensures replies { IfOk result (λ replies. RunsLane (map contents_of files.now) lane
+        commands.now (map reply_of replies) device.old device.new) }
 {
     let mut replies = Items::new(alloc);
     for (number, command) in commands.iter().enumerate() {

@@ -50,14 +50,15 @@ fn ones_of(net: &Net, config: &Config, first: u64, count: u32, at: u32, w: &mut 
     }
 }
 
-/// How many of the `count` values from `first` on make each output of the slot one. Takes no memory;
-/// the wires are to be of the table's fabric.
+/// How many of the `count` values from `first` on make each output of the slot one. Takes no
+/// memory; the wires are to be of the table's fabric.
 fn sweep(t: &Table, slot: u32, first: u64, count: u32, w: &mut LaneWires) -> Reply
     requires slot { slot < t.now.slots }
     requires wires { w.old ≡ t.now.geometry }
     ensures wires { w.new ≡ w.old }
     ensures reply { (files : List Contents)
-        → AnswersAlone files (length t.now.journal) (Sweep slot first count) (reply_of result) t.now }
+        → AnswersAlone files (length t.now.journal) (Sweep slot first count)
+        (reply_of result) t.now }
 {
     let at = t.len();
     let contents = t.look(slot);
@@ -78,7 +79,8 @@ impl Device {
         requires probe { probe < cell_count self.old.geometry }
         ensures same { self.new ≡ self.old }
         ensures reply { (files : List Contents)
-            → AnswersAlone files (length self.old.journal) (CycleCommand slot bits probe) (reply_of result) self.old }
+            → AnswersAlone files (length self.old.journal) (CycleCommand slot bits probe)
+            (reply_of result) self.old }
     {
         cycle_reply(answer(&self.table, slot, bits, probe, &mut self.wires))
     }
@@ -89,7 +91,8 @@ impl Device {
         requires { slot < self.old.slots }
         ensures same { self.new ≡ self.old }
         ensures reply { (files : List Contents)
-            → AnswersAlone files (length self.old.journal) (Sweep slot first count) (reply_of result) self.old }
+            → AnswersAlone files (length self.old.journal) (Sweep slot first count)
+            (reply_of result) self.old }
     {
         sweep(&self.table, slot, first, count, &mut self.lane_wires)
     }

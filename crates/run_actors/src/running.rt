@@ -20,11 +20,11 @@ use std::sync::Wait;
 use std::thread::Threads;
 
 /// Runs the lanes of a script one after another on a device of its own, and answers a transcript of
-/// the script and its files (`TranscriptOf`), of which each reply has a text (`ArePrintable`), or that
-/// memory was wanting.
+/// the script and its files (`TranscriptOf`), of which each reply has a text (`ArePrintable`), or
+/// that memory was wanting.
 ///
-/// There is to be one loaded file for each that the script uses, of the kind that it is used as. The
-/// gate is told of each command before it runs (`pass`), once more after the last one of a lane, of
+/// There is to be one loaded file for each that the script uses, of the kind that it is used as.
+/// The gate is told of each command before it runs (`pass`), once more after the last one of a lane, of
 /// each delivery that was accepted before it is installed (`checked`), and directly before an
 /// agreement, an installation or an eviction is asked for (`locked`).
 pub fn run_in_order<R: Threads + Wait + Sync, G: Gate>(
@@ -37,7 +37,8 @@ pub fn run_in_order<R: Threads + Wait + Sync, G: Gate>(
     requires script { IsScript (script_of s.now) }
     requires files { AreLoaded s.now.files (map contents_of files.now) }
     ensures printable { IfOk result (λ t. ArePrintable (transcript_of t).lanes) }
-    ensures transcript { IfOk result (λ t. TranscriptOf (script_of s.now) (map contents_of files.now) (transcript_of t)) }
+    ensures transcript { IfOk result (λ t. TranscriptOf (script_of s.now)
+        (map contents_of files.now) (transcript_of t)) }
 {
     let mut device = Device::new(alloc, s.geometry, s.slots, s.limit)?;
     let mut lanes = Items::new(alloc);

@@ -1,3 +1,4 @@
 pub mod Places
 pub mod Meanings
 pub mod Legality
+pub mod OneLane

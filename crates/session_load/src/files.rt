@@ -135,11 +135,12 @@ pub fn load_files<S: Store>(
     requires few { length uses.now ≤ 65536 }
     ensures files { S.files store.new ≡ S.files store.old }
     ensures calm { OnOk result (S.faults store.new ≡ S.faults store.old) }
-    ensures usable { IfOk result (λ l. AreUsable (S.files store.old) 0 uses.now (map contents_of l.items)) }
+    ensures usable { IfOk result (λ l. AreUsable (S.files store.old) 0 uses.now
+        (map contents_of l.items)) }
     ensures kinds { IfOk result (λ l. AreLoaded uses.now (map contents_of l.items)) }
     ensures number { IfErr result (λ n. n.file < length uses.now) }
-    ensures fault { IfErr result (λ n. StopsAt (S.files store.old) (S.faults store.old) (S.faults store.new)
-        0 uses.now n.file n.fault) }
+    ensures fault { IfErr result (λ n. StopsAt (S.files store.old) (S.faults store.old)
+        (S.faults store.new) 0 uses.now n.file n.fault) }
 {
     let mut files = Vec::new(alloc);
     let mut used = 0;

@@ -1,3 +1,4 @@
 pub mod MoveLemmas
+pub mod OtherLemmas
 pub mod PlaceLemmas
 pub mod PushLemmas

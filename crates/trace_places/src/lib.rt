@@ -7,6 +7,7 @@
 #![tactic(auto)]
 
 mod groups;
+mod others;
 mod places;
 
 pub use places::Places;

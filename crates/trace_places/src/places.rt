@@ -1,15 +1,14 @@
 ghost use Rattle.std.specs.Prelude.{◌≡◌, ◌==◌, ℕ, vec_len, slice_index, if◌then◌else◌, ◌+◌, ◌<◌, ◌^◌, ◌∷◌, ◌++◌, true, [], length, IfOk, OnOk, OnErr, Ok, Err, Some, None, MatchOption};
-ghost use Rattle.std.specs.Ordering.{nat_cmp};
-ghost use Rattle.std.specs.BTreeMap.{get};
 ghost use Rattle.sat_text_defs.specs.TraceReading.{places_from};
 ghost use Rattle.clause_defs.specs.Traces.{place_of};
-ghost use Rattle.trace_places.specs.Groups.{AreSlots};
-ghost use Rattle.trace_places.specs.Places.{AreRight, MapsRight, HasAll, AreKept, IsMoved};
+ghost use Rattle.trace_places.specs.Groups.{AreSlots, AreWithin};
+ghost use Rattle.trace_places.specs.Others.{place_in};
+ghost use Rattle.trace_places.specs.Places.{AreDistinct, MapsRight, HasAll, AreKept, AreAllKept, IsMoved};
 
 use crate::groups::Groups;
+use crate::others::Others;
 use pch_base::NoMemory;
 use std::alloc::Global;
-use std::collections::BTreeMap;
 use std::marker::Model;
 
 /// So many groups there are at first.
@@ -31,14 +30,13 @@ pub struct Places {
     /// How many indices stand in the groups.
     in_groups: usize,
     /// Indices whose group was full.
-    others: BTreeMap<u32, u32>,
+    others: Others,
     alloc: Global,
 }
 
 impl Model for Places {
     ghost use Rattle.std.specs.Prelude.{ℕ, List};
-    ghost use Rattle.std.specs.Ordering.{nat_cmp};
-    ghost use Rattle.std.specs.BTreeMap.{get};
+    ghost use Rattle.trace_places.specs.Others.{place_in};
     ghost use Rattle.trace_places.specs.Places.{ArePlaces};
 
     ghost Value = { List ℕ };
@@ -46,7 +44,7 @@ impl Model for Places {
     ghost view = { λ p. p.indices.items };
 
     ghost invariant = { λ p. ArePlaces p.indices.items p.table.items p.groups.count
-        p.groups.indices.items p.groups.numbers.items (get nat_cmp p.others) };
+        p.groups.tags.items p.groups.numbers.items (place_in p.others) };
 }
 
 impl Places {
@@ -61,7 +59,7 @@ impl Places {
             in_table: 0,
             groups: Groups::none(alloc),
             in_groups: 0,
-            others: BTreeMap::new(alloc),
+            others: Others::none(alloc),
             alloc,
         }
     }
@@ -75,10 +73,10 @@ impl Places {
         if at < self.table.len() && self.table[at] != 0 {
             return Some(self.table[at] - 1);
         }
-        if let Some(place) = self.groups.find(index) {
+        if let Some(place) = self.groups.find(&self.indices, index) {
             return Some(place);
         }
-        self.others.get(&index).copied()
+        self.others.get(index)
     }
 
     /// The place where the index stands. An index that is too great for the table is looked for at the
@@ -187,19 +185,20 @@ fn make_room(
     indices: &[u32],
     in_groups: usize,
     groups: &mut Groups,
-    others: &mut BTreeMap<u32, u32>,
+    others: &mut Others,
 ) -> Result<(), NoMemory>
-    requires slots { AreSlots groups.old.count groups.old.indices.items groups.old.numbers.items }
-    requires right { AreRight indices.now groups.old.indices.items groups.old.numbers.items }
-    requires mapped { MapsRight indices.now (get nat_cmp others.old) }
-    ensures slots { AreSlots groups.new.count groups.new.indices.items groups.new.numbers.items }
-    ensures right { AreRight indices.now groups.new.indices.items groups.new.numbers.items }
-    ensures mapped { MapsRight indices.now (get nat_cmp others.new) }
-    ensures all { HasAll (get nat_cmp others.old) (get nat_cmp others.new) }
-    ensures kept { AreKept
-        groups.old.count groups.old.indices.items groups.old.numbers.items
-        groups.new.count groups.new.indices.items groups.new.numbers.items
-        (get nat_cmp others.new) }
+    requires slots { AreSlots groups.old.count groups.old.tags.items groups.old.numbers.items }
+    requires within { AreWithin indices.now groups.old.numbers.items }
+    requires distinct { AreDistinct indices.now }
+    requires mapped { MapsRight indices.now (place_in others.old) }
+    ensures slots { AreSlots groups.new.count groups.new.tags.items groups.new.numbers.items }
+    ensures within { AreWithin indices.now groups.new.numbers.items }
+    ensures mapped { MapsRight indices.now (place_in others.new) }
+    ensures all { HasAll (place_in others.old) (place_in others.new) }
+    ensures kept { AreAllKept indices.now
+        groups.old.count groups.old.tags.items groups.old.numbers.items
+        groups.new.count groups.new.tags.items groups.new.numbers.items
+        (place_in others.new) }
     ensures some { OnOk result (0 < groups.new.count) }
 {
     if in_groups / 4 < groups.count {
@@ -217,37 +216,39 @@ fn make_room(
     Ok(())
 }
 
-/// Puts what stands in a slot into other groups, or into the map.
+/// Puts the place in a slot into other groups, or into the map.
 fn move_slot(
     indices: &[u32],
     groups: &Groups,
     slot: usize,
     more: &mut Groups,
-    others: &mut BTreeMap<u32, u32>,
+    others: &mut Others,
 ) -> Result<(), NoMemory>
-    requires from { AreSlots groups.now.count groups.now.indices.items groups.now.numbers.items }
-    requires within { slot < length groups.now.numbers.items }
-    requires from_right { AreRight indices.now groups.now.indices.items groups.now.numbers.items }
-    requires slots { AreSlots more.old.count more.old.indices.items more.old.numbers.items }
+    requires from { AreSlots groups.now.count groups.now.tags.items groups.now.numbers.items }
+    requires slot { slot < length groups.now.numbers.items }
+    requires from_within { AreWithin indices.now groups.now.numbers.items }
+    requires slots { AreSlots more.old.count more.old.tags.items more.old.numbers.items }
     requires some { 0 < more.old.count }
-    requires right { AreRight indices.now more.old.indices.items more.old.numbers.items }
-    requires mapped { MapsRight indices.now (get nat_cmp others.old) }
-    ensures slots { AreSlots more.new.count more.new.indices.items more.new.numbers.items }
+    requires within { AreWithin indices.now more.old.numbers.items }
+    requires distinct { AreDistinct indices.now }
+    requires mapped { MapsRight indices.now (place_in others.old) }
+    ensures slots { AreSlots more.new.count more.new.tags.items more.new.numbers.items }
     ensures count { more.new.count ≡ more.old.count }
-    ensures right { AreRight indices.now more.new.indices.items more.new.numbers.items }
-    ensures mapped { MapsRight indices.now (get nat_cmp others.new) }
-    ensures all { HasAll (get nat_cmp others.old) (get nat_cmp others.new) }
+    ensures within { AreWithin indices.now more.new.numbers.items }
+    ensures mapped { MapsRight indices.now (place_in others.new) }
+    ensures all { HasAll (place_in others.old) (place_in others.new) }
     ensures kept { AreKept
-        more.old.count more.old.indices.items more.old.numbers.items
-        more.new.count more.new.indices.items more.new.numbers.items (get nat_cmp others.old) }
+        more.old.count more.old.tags.items more.old.numbers.items
+        more.new.count more.new.tags.items more.new.numbers.items (place_in others.old) }
     ensures moved { OnOk result (IsMoved
-        groups.now.indices.items groups.now.numbers.items
-        more.new.count more.new.indices.items more.new.numbers.items
-        (get nat_cmp others.new) slot) }
+        indices.now groups.now.numbers.items
+        more.new.count more.new.tags.items more.new.numbers.items
+        (place_in others.new) slot) }
 {
-    let Some((index, place)) = groups.entry(slot) else {
+    let Some(place) = groups.place(slot) else {
         return Ok(());
     };
+    let index = indices[place as usize];
     if more.add(index, place) {
         return Ok(());
     }

@@ -28,8 +28,7 @@ loop-k-preserved c =
       gives = subst (ChainGives (index_at t k) (antecedents_known t computed k)) (sym value) made.gives;
     } in
     record {
-      variables = made.variables ∙ inv.variables;
-      room = made.room ∙ inv.room;
+      desk = record { variables = made.variables ∙ inv.desk.variables; clause = made.room ∙ inv.desk.clause };
       count = ap length pushed ∙ length-append lists (c.deref.result.now ∷ []) ∙ (let count = inv.count in omega arith);
       few =
           let more = ap total pushed ∙ total_more lists c.deref.result.now in

@@ -6,16 +6,24 @@ use Rattle.par_check.proofs.progress.Progress.keep.Goals as goal
 -- one clause more is done
 pub returns-clause-done : goal.returns-clause-done
 returns-clause-done c =
+    let so_far = c.requires.so_far in
     let t = c.args.self.now.t.now in
     let room = c.args.room.now in
     let done = c.args.self.now.done.items in
     let free = sym (subst (λ (b : Bool). b ≡ get_or done c.args.k b) c.if-index.false c.index.ensures) in
     let own = c.if-not-put_aside.ensures {u = tt} in
-    subst (λ cs. AreDone t room.marks.variables room.limit cs c.put_aside.new.self.computed.total (set done c.args.k true)) (sym own.clauses)
-    (subst (λ n. AreDone t room.marks.variables room.limit (set room.computed.clauses c.args.k c.args.lits.now) n (set done c.args.k true)) (sym own.total)
-    (one_more t room.computed.clauses done c.args.k c.args.lits.now free room.marks.variables room.limit room.computed.total c.requires.done
-    (c.requires.room.places c.args.k c.requires.computed.ready.sign) c.requires.computed
-    (let within = own.within in let total = own.total in omega arith)))
+    let next = c.put_aside.new.self in
+    let more = set done c.args.k true in
+    let are = subst (λ cs. AreDone t room.marks.variables room.limit cs next.computed.total more) (sym own.clauses)
+    (subst (λ n. AreDone t room.marks.variables room.limit (set room.computed.clauses c.args.k c.args.lits.now) n more) (sym own.total)
+    (one_more t room.computed.clauses done c.args.k c.args.lits.now free room.marks.variables room.limit room.computed.total so_far.clauses
+    (so_far.enough.places c.args.k c.requires.computed.ready.sign) c.requires.computed
+    (let within = own.within in let total = own.total in omega arith))) in
+    record {
+      enough = own.room t so_far.enough;
+      clauses = subst (λ v. AreDone t v next.limit next.computed.clauses next.computed.total more) (sym own.variables)
+          (subst (λ w. AreDone t room.marks.variables w next.computed.clauses next.computed.total more) (sym own.limit) are);
+    }
 
 -- what was computed stays so
 pub returns-clause-later : goal.returns-clause-later

@@ -1,9 +1,8 @@
-use Rattle.std.proofs.Common.{ℕ, List, Bor, get_or, sym, ◌∙◌, subst, arith}
+use Rattle.std.proofs.Common.{List, Bor, get_or, sym, subst, arith}
 use Rattle.std.proofs.lemmas.Slice.Zip.{AllZip-long}
 use Rattle.clause_defs.specs.Traces.{Entry}
-use Rattle.chain_check.specs.Rooms.{IsRoomFor}
-use Rattle.par_check.specs.Progress.{IsComputedBy, AreDone}
-use Rattle.par_check.proofs.ProgressLemmas.{zip_at}
+use Rattle.par_check.specs.Progress.{IsComputedBy}
+use Rattle.par_check.proofs.ProgressLemmas.{zip_at, advances_on, stays_on}
 use Rattle.par_check.proofs.progress.Progress.keep_list.Goals as goal
 
 -- there are as many places as lists
@@ -20,7 +19,7 @@ keep-requires-clause-computed c =
     let k = get_or c.args.places.now c.loop-i.i 0 in
     let own = zip_at (IsComputedBy c.args.self.now.t.now c.args.room.now.computed.clauses c.args.self.now.done.items) c.args.places.now c.args.lists.now.lists c.loop-i.i 0
     c.get.result.now c.requires.lists c.get.ensures.list in
-    subst (λ (b : Bor (List Entry)). IsComputedBy b.now c.loop-i.room.computed.clauses c.loop-i.self.done.items k c.get.result.now) (sym inv.trace)
+    subst (λ (b : Bor (List Entry)). IsComputedBy b.now c.loop-i.room.computed.clauses c.loop-i.self.done.items k c.get.result.now) (sym inv.advances.trace)
     (inv.later k c.get.result.now own)
 
 -- one clause more is kept
@@ -28,18 +27,11 @@ pub loop-i-preserved : goal.loop-i-preserved
 loop-i-preserved c =
     let inv = c.loop-i.invariant in
     let own = c.if-not-keep.ensures {u = tt} in
-    let was = c.args.room.now in
-    let now = c.loop-i.room in
-    let next = c.keep.new.room in
-    let done = c.keep.new.self.done.items in
+    let was = c.args.self.now in
+    let mid = c.loop-i.self in
+    let now = c.keep.new.self in
     record {
-      trace = own.trace ∙ inv.trace;
-      room = subst (λ (b : Bor (List Entry)). IsRoomFor b.now next) inv.trace own.room;
-      limit = own.limit ∙ inv.limit;
-      variables = own.variables ∙ inv.variables;
-      done = subst (λ (b : Bor (List Entry)). AreDone b.now was.marks.variables was.limit next.computed.clauses next.computed.total done) inv.trace
-          (subst (λ (v : ℕ). AreDone c.loop-i.self.t.now v was.limit next.computed.clauses next.computed.total done) inv.variables
-          (subst (λ (w : ℕ). AreDone c.loop-i.self.t.now now.marks.variables w next.computed.clauses next.computed.total done) inv.limit own.done));
-      later = λ j ls h. subst (λ (b : Bor (List Entry)). IsComputedBy b.now next.computed.clauses done j ls) inv.trace
-          (own.later j ls (subst (λ (b : Bor (List Entry)). IsComputedBy b.now now.computed.clauses c.loop-i.self.done.items j ls) (sym inv.trace) (inv.later j ls h)));
+      advances = advances_on was mid now c.args.room.now c.loop-i.room c.keep.new.room inv.advances own.advances;
+      so_far = own.done;
+      later = stays_on was mid now c.args.room.now c.loop-i.room c.keep.new.room inv.advances inv.later own.later;
     }

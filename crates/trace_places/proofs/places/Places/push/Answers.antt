@@ -1,7 +1,8 @@
-use Rattle.std.proofs.Common.{◌≡◌, ℕ, ◌+◌, ◌==◌, ◌∷◌, ◌++◌, [], List, length, None, Some, cond, if◌then◌else◌, nat_cmp, get_or, sym, ap, ◌∙◌, subst}
-use Rattle.std.specs.BTreeMap.{get, is_at}
+use Rattle.std.proofs.Common.{◌≡◌, ℕ, ◌+◌, ◌==◌, ◌∷◌, ◌++◌, [], List, length, None, Some, if◌then◌else◌, get_or, sym, ap, ◌∙◌, subst}
+use Rattle.trace_places.specs.Others.{place_in}
 use Rattle.clause_defs.specs.Traces.{place_of}
-use Rattle.trace_places.specs.Places.{AreRight, MapsRight}
+use Rattle.trace_places.specs.Groups.{AreWithin}
+use Rattle.trace_places.specs.Places.{AreDistinct, AreAllKept, MapsRight}
 use Rattle.trace_places.proofs.PushLemmas.{ArePlaces-put, ArePlaces-insert, ArePlaces-add, ArePlaces-same_table, ArePlaces-regrouped}
 use Rattle.trace_places.proofs.places.Places.push.Goals as goal
 
@@ -10,8 +11,8 @@ pub invariant_of-self-in_err-put : goal.invariant_of-self-in_err-put
 invariant_of-self-in_err-put c =
     let items : c.reserve.new.self.items ≡ c.self.inside.indices.items = cc in
     rw items
-    (ArePlaces-same_table c.self.inside.indices.items c.self.inside.table.items c.put.new.table.items c.self.inside.groups.count c.self.inside.groups.indices.items
-    c.self.inside.groups.numbers.items (get nat_cmp c.self.inside.others) c.in_err-put.ensures.same c.self.invariant)
+    (ArePlaces-same_table c.self.inside.indices.items c.self.inside.table.items c.put.new.table.items c.self.inside.groups.count c.self.inside.groups.tags.items
+    c.self.inside.groups.numbers.items (place_in c.self.inside.others) c.in_err-put.ensures.same c.self.invariant)
 
 -- the table says the new place too
 pub invariant_of-self-then-index-limit : goal.invariant_of-self-then-index-limit
@@ -20,28 +21,37 @@ invariant_of-self-then-index-limit c =
     let items : c.push_reserved.new.self.items ≡ c.self.inside.indices.items ++ c.args.index ∷ [] = cc in
     let place : c.len-place.result + 1 ≡ length c.self.inside.indices.items + 1 = ap (λ (n : ℕ). n + 1) (c.len-place.ensures ∙ c.self.inside.indices.ok.0) in
     rw items
-    (ArePlaces-put c.self.inside.indices.items c.self.inside.table.items c.put.new.table.items c.self.inside.groups.count c.self.inside.groups.indices.items
-    c.self.inside.groups.numbers.items (get nat_cmp c.self.inside.others) c.args.index none
+    (ArePlaces-put c.self.inside.indices.items c.self.inside.table.items c.put.new.table.items c.self.inside.groups.count c.self.inside.groups.tags.items
+    c.self.inside.groups.numbers.items (place_in c.self.inside.others) c.args.index none
     (λ y. c.in_ok-put.ensures.set y ∙ ap (λ (n : ℕ). if c.args.index == y then n else get_or c.self.inside.table.items y 0) place)
     c.self.invariant)
 
 -- what the slots have is right
-pub make_room-requires-clause-right : goal.make_room-requires-clause-right
-make_room-requires-clause-right c =
+pub make_room-requires-clause-within : goal.make_room-requires-clause-within
+make_room-requires-clause-within c =
     let lent : c.deref.result.now ≡ c.self.inside.indices.items = cc in
-    subst (λ (is : List ℕ). AreRight is c.self.inside.groups.indices.items c.self.inside.groups.numbers.items) (sym lent) c.self.invariant.slotted
+    subst (λ (is : List ℕ). AreWithin is c.self.inside.groups.numbers.items) (sym lent) c.self.invariant.within
+
+-- the indices are distinct
+pub make_room-requires-clause-distinct : goal.make_room-requires-clause-distinct
+make_room-requires-clause-distinct c =
+    let lent : c.deref.result.now ≡ c.self.inside.indices.items = cc in
+    subst (λ (is : List ℕ). AreDistinct is) (sym lent) c.self.invariant.distinct
 
 -- after what was moved before memory was wanting, all places are still said
 pub invariant_of-self-in_err-make_room : goal.invariant_of-self-in_err-make_room
 invariant_of-self-in_err-make_room c =
     let items : c.reserve.new.self.items ≡ c.self.inside.indices.items = cc in
     let lent : c.deref.result.now ≡ c.self.inside.indices.items = cc in
-    let room = ArePlaces-regrouped c.self.inside.indices.items c.self.inside.table.items c.self.inside.groups.count c.self.inside.groups.indices.items c.self.inside.groups.numbers.items
-    (get nat_cmp c.self.inside.others) c.make_room.new.groups.count c.make_room.new.groups.indices.items c.make_room.new.groups.numbers.items (get nat_cmp c.make_room.new.others)
+    let room = ArePlaces-regrouped c.self.inside.indices.items c.self.inside.table.items c.self.inside.groups.count c.self.inside.groups.tags.items c.self.inside.groups.numbers.items
+    (place_in c.self.inside.others) c.make_room.new.groups.count c.make_room.new.groups.tags.items c.make_room.new.groups.numbers.items (place_in c.make_room.new.others)
     c.make_room.ensures.slots
-    (subst (λ (is : List ℕ). AreRight is c.make_room.new.groups.indices.items c.make_room.new.groups.numbers.items) lent c.make_room.ensures.right)
-    (subst (λ (is : List ℕ). MapsRight is (get nat_cmp c.make_room.new.others)) lent c.make_room.ensures.mapped)
-    c.make_room.ensures.all c.make_room.ensures.kept c.self.invariant in
+    (subst (λ (is : List ℕ). AreWithin is c.make_room.new.groups.numbers.items) lent c.make_room.ensures.within)
+    (subst (λ (is : List ℕ). MapsRight is (place_in c.make_room.new.others)) lent c.make_room.ensures.mapped)
+    c.make_room.ensures.all
+    (subst (λ (is : List ℕ). AreAllKept is c.self.inside.groups.count c.self.inside.groups.tags.items c.self.inside.groups.numbers.items
+    c.make_room.new.groups.count c.make_room.new.groups.tags.items c.make_room.new.groups.numbers.items (place_in c.make_room.new.others)) lent c.make_room.ensures.kept)
+    c.self.invariant in
     rw items room
 
 -- a slot says the new place too
@@ -51,15 +61,18 @@ invariant_of-self-then-add c =
     let items : c.push_reserved-then-add.new.self.items ≡ c.self.inside.indices.items ++ c.args.index ∷ [] = cc in
     let place : c.len-place.result ≡ length c.self.inside.indices.items = c.len-place.ensures ∙ c.self.inside.indices.ok.0 in
     let lent : c.deref.result.now ≡ c.self.inside.indices.items = cc in
-    let room = ArePlaces-regrouped c.self.inside.indices.items c.self.inside.table.items c.self.inside.groups.count c.self.inside.groups.indices.items c.self.inside.groups.numbers.items
-    (get nat_cmp c.self.inside.others) c.make_room.new.groups.count c.make_room.new.groups.indices.items c.make_room.new.groups.numbers.items (get nat_cmp c.make_room.new.others)
+    let room = ArePlaces-regrouped c.self.inside.indices.items c.self.inside.table.items c.self.inside.groups.count c.self.inside.groups.tags.items c.self.inside.groups.numbers.items
+    (place_in c.self.inside.others) c.make_room.new.groups.count c.make_room.new.groups.tags.items c.make_room.new.groups.numbers.items (place_in c.make_room.new.others)
     c.make_room.ensures.slots
-    (subst (λ (is : List ℕ). AreRight is c.make_room.new.groups.indices.items c.make_room.new.groups.numbers.items) lent c.make_room.ensures.right)
-    (subst (λ (is : List ℕ). MapsRight is (get nat_cmp c.make_room.new.others)) lent c.make_room.ensures.mapped)
-    c.make_room.ensures.all c.make_room.ensures.kept c.self.invariant in
+    (subst (λ (is : List ℕ). AreWithin is c.make_room.new.groups.numbers.items) lent c.make_room.ensures.within)
+    (subst (λ (is : List ℕ). MapsRight is (place_in c.make_room.new.others)) lent c.make_room.ensures.mapped)
+    c.make_room.ensures.all
+    (subst (λ (is : List ℕ). AreAllKept is c.self.inside.groups.count c.self.inside.groups.tags.items c.self.inside.groups.numbers.items
+    c.make_room.new.groups.count c.make_room.new.groups.tags.items c.make_room.new.groups.numbers.items (place_in c.make_room.new.others)) lent c.make_room.ensures.kept)
+    c.self.invariant in
     rw items
-    (ArePlaces-add c.self.inside.indices.items c.self.inside.table.items c.make_room.new.groups.count c.make_room.new.groups.indices.items c.make_room.new.groups.numbers.items
-    c.add.new.self.count c.add.new.self.indices.items c.add.new.self.numbers.items (get nat_cmp c.make_room.new.others) c.args.index c.len-place.result none
+    (ArePlaces-add c.self.inside.indices.items c.self.inside.table.items c.make_room.new.groups.count c.make_room.new.groups.tags.items c.make_room.new.groups.numbers.items
+    c.add.new.self.count c.add.new.self.tags.items c.add.new.self.numbers.items (place_in c.make_room.new.others) c.args.index c.len-place.result none
     place c.add.ensures.count c.add.ensures.slots c.add.ensures.kept c.add.ensures.only (c.add.ensures.added c.if-add.true) room)
 
 -- where the map has no memory for it, all places are still said
@@ -68,13 +81,16 @@ invariant_of-self-in_err-insert c =
     let items : c.reserve.new.self.items ≡ c.self.inside.indices.items = cc in
     let same = c.add.ensures.same c.if-add.false in
     let lent : c.deref.result.now ≡ c.self.inside.indices.items = cc in
-    let room = ArePlaces-regrouped c.self.inside.indices.items c.self.inside.table.items c.self.inside.groups.count c.self.inside.groups.indices.items c.self.inside.groups.numbers.items
-    (get nat_cmp c.self.inside.others) c.make_room.new.groups.count c.make_room.new.groups.indices.items c.make_room.new.groups.numbers.items (get nat_cmp c.make_room.new.others)
+    let room = ArePlaces-regrouped c.self.inside.indices.items c.self.inside.table.items c.self.inside.groups.count c.self.inside.groups.tags.items c.self.inside.groups.numbers.items
+    (place_in c.self.inside.others) c.make_room.new.groups.count c.make_room.new.groups.tags.items c.make_room.new.groups.numbers.items (place_in c.make_room.new.others)
     c.make_room.ensures.slots
-    (subst (λ (is : List ℕ). AreRight is c.make_room.new.groups.indices.items c.make_room.new.groups.numbers.items) lent c.make_room.ensures.right)
-    (subst (λ (is : List ℕ). MapsRight is (get nat_cmp c.make_room.new.others)) lent c.make_room.ensures.mapped)
-    c.make_room.ensures.all c.make_room.ensures.kept c.self.invariant in
-    rw (items, c.add.ensures.count, same.0, same.1, (c.in_err-insert.ensures {u = tt}).err) room
+    (subst (λ (is : List ℕ). AreWithin is c.make_room.new.groups.numbers.items) lent c.make_room.ensures.within)
+    (subst (λ (is : List ℕ). MapsRight is (place_in c.make_room.new.others)) lent c.make_room.ensures.mapped)
+    c.make_room.ensures.all
+    (subst (λ (is : List ℕ). AreAllKept is c.self.inside.groups.count c.self.inside.groups.tags.items c.self.inside.groups.numbers.items
+    c.make_room.new.groups.count c.make_room.new.groups.tags.items c.make_room.new.groups.numbers.items (place_in c.make_room.new.others)) lent c.make_room.ensures.kept)
+    c.self.invariant in
+    rw (items, c.add.ensures.count, same.0, same.1, (c.in_err-insert.ensures {u = tt}).unchanged) room
 
 -- the map says the new place too
 pub invariant_of-self-2 : goal.invariant_of-self-2
@@ -84,14 +100,17 @@ invariant_of-self-2 c =
     let place : c.len-place.result ≡ length c.self.inside.indices.items = c.len-place.ensures ∙ c.self.inside.indices.ok.0 in
     let same = c.add.ensures.same c.if-add.false in
     let lent : c.deref.result.now ≡ c.self.inside.indices.items = cc in
-    let room = ArePlaces-regrouped c.self.inside.indices.items c.self.inside.table.items c.self.inside.groups.count c.self.inside.groups.indices.items c.self.inside.groups.numbers.items
-    (get nat_cmp c.self.inside.others) c.make_room.new.groups.count c.make_room.new.groups.indices.items c.make_room.new.groups.numbers.items (get nat_cmp c.make_room.new.others)
+    let room = ArePlaces-regrouped c.self.inside.indices.items c.self.inside.table.items c.self.inside.groups.count c.self.inside.groups.tags.items c.self.inside.groups.numbers.items
+    (place_in c.self.inside.others) c.make_room.new.groups.count c.make_room.new.groups.tags.items c.make_room.new.groups.numbers.items (place_in c.make_room.new.others)
     c.make_room.ensures.slots
-    (subst (λ (is : List ℕ). AreRight is c.make_room.new.groups.indices.items c.make_room.new.groups.numbers.items) lent c.make_room.ensures.right)
-    (subst (λ (is : List ℕ). MapsRight is (get nat_cmp c.make_room.new.others)) lent c.make_room.ensures.mapped)
-    c.make_room.ensures.all c.make_room.ensures.kept c.self.invariant in
+    (subst (λ (is : List ℕ). AreWithin is c.make_room.new.groups.numbers.items) lent c.make_room.ensures.within)
+    (subst (λ (is : List ℕ). MapsRight is (place_in c.make_room.new.others)) lent c.make_room.ensures.mapped)
+    c.make_room.ensures.all
+    (subst (λ (is : List ℕ). AreAllKept is c.self.inside.groups.count c.self.inside.groups.tags.items c.self.inside.groups.numbers.items
+    c.make_room.new.groups.count c.make_room.new.groups.tags.items c.make_room.new.groups.numbers.items (place_in c.make_room.new.others)) lent c.make_room.ensures.kept)
+    c.self.invariant in
     rw (items, c.add.ensures.count, same.0, same.1)
-    (ArePlaces-insert c.self.inside.indices.items c.self.inside.table.items c.make_room.new.groups.count c.make_room.new.groups.indices.items c.make_room.new.groups.numbers.items
-    (get nat_cmp c.make_room.new.others) (get nat_cmp c.insert.new.self) c.args.index none
-    (λ y. (c.in_ok-insert.ensures {u = tt}).updates.0 y ∙ ap (λ (n : ℕ). cond (is_at (nat_cmp c.args.index) y) (Some n) (get nat_cmp c.make_room.new.others y)) place)
+    (ArePlaces-insert c.self.inside.indices.items c.self.inside.table.items c.make_room.new.groups.count c.make_room.new.groups.tags.items c.make_room.new.groups.numbers.items
+    (place_in c.make_room.new.others) (place_in c.insert.new.self) c.args.index none
+    (λ y. (c.in_ok-insert.ensures {u = tt}).updates y ∙ ap (λ (n : ℕ). if c.args.index == y then Some n else place_in c.make_room.new.others y) place)
     room)

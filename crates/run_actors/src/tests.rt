@@ -74,10 +74,7 @@ impl Noting {
     fn note(&self, call: u64, lane: u32, turn: u32) {
         let calls = if lane == 0 { &self.first } else { &self.second };
         let earlier = calls.load(SeqCst).wrapping_mul(100);
-        calls.store(
-            earlier.wrapping_add(call).wrapping_add(turn as u64),
-            SeqCst,
-        );
+        calls.store(earlier.wrapping_add(call).wrapping_add(turn as u64), SeqCst);
     }
 }
 

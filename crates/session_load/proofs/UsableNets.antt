@@ -24,7 +24,7 @@ held-net : (kind : Kind) (bytes : List ℕ) (c : Contents) (net : Network) → c
 held-net Spec bytes c net is held = specified-net bytes net (subst (Holds Spec bytes) is held)
 held-net Bundle bytes c net is held = absurd (subst (Holds Bundle bytes) is held)
 
--- each file that can be used is one of these two, so each network among them is a net
+-- a file that can be used holds what its bytes say for its kind, so each network among such files is a net
 pub usable-nets : (told : Option Files) (used : ℕ) (uses : List FileUse) (contents : List Contents)
     → AreUsable told used uses contents → (file : ℕ) (net : Network) → DescribesNet contents file net → IsNet net
 usable-nets told used uses [] usable file net found = absurd (none-some (specification net) found)

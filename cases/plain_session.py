@@ -279,7 +279,7 @@ def random_bundle(geometry, text):
     return bytes(data)
 
 
-def random_command(geometry, slots, specs, bundles):
+def random_command(geometry, slots, specs, bundles, widths):
     slot, kind = random.randrange(slots), random.randrange(10)
     if kind < 2:
         return "agree %d %s" % (slot, random.choice(specs))
@@ -288,10 +288,24 @@ def random_command(geometry, slots, specs, bundles):
     if kind == 5:
         return "evict %d" % slot
     if kind < 9:
-        bits = "".join(random.choice("01") for _ in range(random.randrange(5))) or "-"
+        bits = "".join(random.choice("01") for _ in range(random.choice(widths))) or "-"
         return "cycle %d %s %d" % (slot, bits, random.randrange(geometry[0] * geometry[1]))
     first = random.choice([0, random.randrange(2**64), 2**64 - random.randrange(1, 70)])
     return "sweep %d %d %d" % (slot, first, random.choice([1, 2, 63, 64, 65, random.randrange(1, 200)]))
+
+
+def spoil(lines):
+    """Leaves a line of a script out, doubles one, or changes a number of one."""
+    at, kind = random.randrange(len(lines)), random.randrange(3)
+    words = lines[at].split()
+    numbers = [place for place, word in enumerate(words) if word.isdigit()]
+    if kind == 0:
+        del lines[at]
+    elif kind == 1 or not numbers:
+        lines.insert(at, lines[at])
+    else:
+        words[random.choice(numbers)] = random.choice(["0", "1", "3", "01", "16", "17", "64", "65", "257"])
+        lines[at] = " ".join(words)
 
 
 def random_session(folder):
@@ -304,12 +318,15 @@ def random_session(folder):
         files[name] = random_bundle(geometry, text)
     lines = [" ".join(["fabric", *map(str, geometry)]), "slots %d" % slots, "limit %d" % random.choice([1, 2, 5, 40]),
              "workers %d" % random.choice([1, 2, 3, 64])]
+    widths = [*(Net(text).inputs for text in texts), random.randrange(5)]
     for _ in range(random.randrange(1, 4)):
-        commands = [random_command(geometry, slots, specs, bundles) for _ in range(random.randrange(12))]
+        commands = [random_command(geometry, slots, specs, bundles, widths) for _ in range(random.randrange(12))]
         if random.randrange(3):
             name = random.choice("ab")
             commands[:0] = ["agree 0 %s.blif" % name, "deliver 0 %s.pch" % name]
         lines += ["lane"] + commands
+    if random.randrange(8) == 0:
+        spoil(lines)
     files["s"] = ("\n".join(lines) + "\n").encode()
     for name, content in files.items():
         with open(os.path.join(folder, name), "wb") as file:
@@ -324,6 +341,8 @@ def compare(program, rounds, seed):
         with tempfile.TemporaryDirectory() as folder:
             script = random_session(folder)
             want, status = run(folder, "s")
+            if status == 9:
+                seen["faulty"] = seen.get("faulty", 0) + 1
             for line in want.splitlines():
                 if not line.startswith(("journal", "lane")) and "@" in line:
                     seen[line.split()[1]] = seen.get(line.split()[1], 0) + 1

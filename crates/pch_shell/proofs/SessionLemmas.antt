@@ -1,10 +1,9 @@
 -- What follows from how a session ends.
-use Rattle.std.proofs.Common.{◌≡◌, ◌≢◌, ◌⊎◌, inl, inr, ℕ, zero, suc, ◌+◌, ◌<◌, ◌≤◌, List, [], ◌∷◌, length, All, slice_get, slice_index_or, get_or, Option, Some, None, Result, Ok, Err, IfOk, OnErr, refl, sym, ap, subst, ◌∙◌, arith}
+use Rattle.std.proofs.Common.{◌≡◌, ◌≢◌, ◌⊎◌, inl, inr, ℕ, zero, suc, ◌+◌, ◌<◌, List, [], ◌∷◌, length, All, slice_get, slice_index_or, get_or, Option, Some, None, Result, Ok, Err, IfOk, OnErr, refl, sym, ap, subst, ◌∙◌}
 use Rattle.std.specs.Str.{IsUtf8}
 use Rattle.std.proofs.lemmas.List.Elements.{All-get_or}
 use Rattle.std.proofs.lemmas.Option.{slice_get_read}
-use Rattle.net_defs.specs.Networks.{Network}
-use Rattle.net_defs.specs.Specifications.{SpecificationOf, IsSpecFault}
+use Rattle.net_defs.specs.Specifications.{IsSpecFault}
 use Rattle.net_defs.specs.declared.specification.SpecError.{SpecError}
 use Rattle.net_defs.specs.declared.specification.SpecError.TheVariants as spec_errors
 use Rattle.net_laws.proofs.SpecificationLemmas.{specification_is_unique}
@@ -17,9 +16,8 @@ use Rattle.script_defs.specs.declared.command.Command.TheVariants.{Agree, Delive
 use Rattle.script_defs.specs.declared.command.Kind.TheVariants as kinds
 use Rattle.script_defs.specs.declared.command.FileUse.{FileUse}
 use Rattle.script_defs.specs.declared.error.ScriptError.{ScriptError}
-use Rattle.script_defs.specs.declared.error.ScriptError.TheVariants as script_errors
 use Rattle.script_defs.specs.Scripts.{ScriptValue, IsScript, IsCommand}
-use Rattle.script_defs.specs.Texts.{ScriptText, ScriptFault}
+use Rattle.script_defs.specs.Texts.{ScriptText}
 use Rattle.script_laws.proofs.Reading.{reading_is_unique}
 use Rattle.script_defs.specs.Transcripts.{TranscriptValue}
 use Rattle.script_defs.specs.Printing.{transcript_text}
@@ -27,7 +25,7 @@ use Rattle.session_defs.specs.Files.{Contents, specification, delivery}
 use Rattle.session_defs.specs.Transcripts.{TranscriptOf}
 use Rattle.pch_io.specs.declared.store.LoadFail.{LoadFail}
 use Rattle.pch_io.specs.declared.store.LoadFail.TheVariants as fails
-use Rattle.pch_io.specs.Outside.{Files, Rose, Loads, LoadCause, Appends}
+use Rattle.pch_io.specs.Outside.{Files, Rose, Loads, Appends}
 use Rattle.session_load.specs.declared.fault.NoScript.{NoScript}
 use Rattle.session_load.specs.declared.fault.NoScript.TheVariants as no_script
 use Rattle.session_load.specs.declared.fault.FileFault.{FileFault}
@@ -36,7 +34,7 @@ use Rattle.session_load.specs.Usable.{Holds, limit_behind, IsUsable, AreUsable, 
 use Rattle.pch_lines.specs.Sessions.{SessionForm}
 use Rattle.pch_shell.specs.Outcomes.{Outcome, done}
 use Rattle.pch_shell.specs.Runs.{StoreState, SinkState, Put}
-use Rattle.pch_shell.specs.Session.{on_cells, HasScript, IsFaultyScript, HasTranscript, StopsAtFile, IsFaultySpec, IsMissing, IsToldOf, IsToldOfNone, ScriptTells, SessionTells}
+use Rattle.pch_shell.specs.Session.{on_cells, HasScript, IsFaultyScript, HasTranscript, IsFaultySpec, IsToldOf, IsToldOfNone, ScriptTells, SessionTells}
 use Rattle.pch_shell.specs.SessionRuns.{SessionEnds, WritesTranscript, SessionStoreCause, HasBadFile, IsReady, EndsWith, SessionRuns, AskedTells, SessionAnswers}
 use Rattle.pch_shell.specs.declared.status.Status.{Status}
 use Rattle.pch_shell.specs.declared.status.Status.TheVariants.{Done, Words, Store, Sink, Memory, BadInput}
@@ -253,7 +251,7 @@ ready_told t b form new told (inr (inr (s, h, inr (inr (name, fail, missing, is)
     inr (
       status_of told _ is,
       usable_rose t b new.faults 0 s.files contents missing.1.file fail
-      (subst (λ (x : ScriptValue). AreUsable (Some t) 0 x.files contents) (script_one form t r s has h) usable) missing.1.stops missing.0,
+          (subst (λ (x : ScriptValue). AreUsable (Some t) 0 x.files contents) (script_one form t r s has h) usable) missing.1.stops missing.0,
     )
 
 -- status 9 is told where the script has a fault
@@ -281,8 +279,8 @@ spec_told t b form new told r bad_name e (inr (inr (s, h, inr (inr (name, fail, 
     inr (
       status_of told _ is,
       faulty_rose t b new.faults 0 r.files bad.1.file missing.1.file e fail bad.1.stops bad.0
-      (subst (λ (x : ScriptValue). StopsAt (Some t) b new.faults 0 x.files missing.1.file (Load fail)) (script_one form t s r h has) missing.1.stops)
-      missing.0,
+          (subst (λ (x : ScriptValue). StopsAt (Some t) b new.faults 0 x.files missing.1.file (Load fail)) (script_one form t s r h has) missing.1.stops)
+          missing.0,
     )
 
 -- so it is where a file has a fault

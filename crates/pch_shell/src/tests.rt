@@ -100,7 +100,8 @@ fn check_without_a_fault_is_done(rt: HostRuntime) -> Result<(), Fail> {
 const SCRIPT: &[u8] = b"fabric 1 1 1 1 1\nslots 1\nlimit 1\nworkers 1\nlane\n\
 cycle 0 1 0\nagree 0 d\nevict 0\n";
 
-const TRANSCRIPT: &[u8] = b"journal 1\n1 agreed 0 1 0\nlane 0\n0 vacant @0\n1 agreed @1\n2 full @1\n";
+const TRANSCRIPT: &[u8] =
+    b"journal 1\n1 agreed 0 1 0\nlane 0\n0 vacant @0\n1 agreed @1\n2 full @1\n";
 
 #[test]
 fn two_loads_and_one_put_of_a_session(rt: HostRuntime) -> Result<(), Fail> {

@@ -39,6 +39,7 @@ all-entries h n all = sym (take_all n h (omega (arith, all)))
 
 -- ---- reasons
 
+-- a trace is never refused because memory was wanting: that is the fault of no text
 trace-has_reason : (text : List ℕ) (version : ℕ) (e : TraceError) → TraceTextFault text version e → e ≢ trace.NoMemory
 trace-has_reason text version e (inl long) = λ is. grind (arith, long.1, is)
 trace-has_reason text version e (inr fault) =
@@ -71,18 +72,21 @@ alone-now files c r d none printable begins ends meets = record {
   within = omega (arith, ends);
 }
 
+-- an agreement where the journal has no room answers so and changes nothing
 pub agree-full : (files : List Contents) (at : Turn) (slot file n : ℕ) (old new : TableValue)
     → length old.journal ≡ old.limit → n ≡ length old.journal → new ≡ old
     → Answered files (length old.journal) at (Agree slot file) (full n) old new
 agree-full files at slot file n old new is_full now same =
     inl (alone-now files (Agree slot file) (full n) old tt tt now now (now ∙ is_full), same)
 
+-- and so does an eviction
 pub evict-full : (files : List Contents) (at : Turn) (slot n : ℕ) (old new : TableValue)
     → length old.journal ≡ old.limit → n ≡ length old.journal → new ≡ old
     → Answered files (length old.journal) at (Evict slot) (full n) old new
 evict-full files at slot n old new is_full now same =
     inl (alone-now files (Evict slot) (full n) old tt tt now now (now ∙ is_full), same)
 
+-- a delivery to a slot for which nothing is agreed changes nothing, whatever the bundle is
 pub deliver-unagreed : (files : List Contents) (at : Turn) (slot file n : ℕ) (old new : TableValue)
     → spec_at old.journal slot ≡ None → n ≡ length old.journal → new ≡ old
     → Answered files (length old.journal) at (Deliver slot file) (unagreed n) old new
@@ -91,6 +95,7 @@ deliver-unagreed files at slot file n old new none now same =
     subst (λ h. spec_at h slot ≡ None) (all-entries old.journal n now) none in
     inl (alone-now files (Deliver slot file) (unagreed n) old tt tt now now met, same)
 
+-- a bundle is refused for its first refusal against the network that is agreed now
 pub deliver-refused : (files : List Contents) (at : Turn) (slot file n : ℕ) (why : Refusal) (net : Network)
     (bytes : List ℕ) (old new : TableValue)
     → spec_at old.journal slot ≡ Some net → IsDelivery files file bytes → FirstRefusal old.geometry net bytes why
@@ -162,6 +167,7 @@ deliver-full files at slot file checked n net bytes config old new agrees is_ful
 
 -- ---- one entry
 
+-- an agreement where there is room adds its entry and answers the entry's number
 pub agree-made : (files : List Contents) (at : Turn) (slot file n : ℕ) (net : Network) (e : EntryValue)
     (old new : TableValue) → DescribesNet files file net
     → e ≡ record { change = agreed_change net; lane = at.lane; turn = at.number; slot = slot }
@@ -183,6 +189,7 @@ agree-made files at slot file n net e old new described is room number entry =
       entry ∙ ap (with_entry old) is,
     )
 
+-- and so does an eviction
 pub evict-made : (files : List Contents) (at : Turn) (slot n : ℕ) (e : EntryValue) (old new : TableValue)
     → e ≡ record { change = evicted_change; lane = at.lane; turn = at.number; slot = slot }
     → length old.journal < old.limit → n ≡ length old.journal + 1 → new ≡ with_entry old e
@@ -214,6 +221,7 @@ own-config g net bytes config accepted =
       reads = rw parts.is_bundle.geometry parts.has_config;
     }
 
+-- an accepted bundle is installed where its network is still agreed and there is room
 pub deliver-made : (files : List Contents) (at : Turn) (slot file checked n : ℕ) (net : Network) (bytes : List ℕ)
     (config : ConfigValue) (e : EntryValue) (old new : TableValue)
     → spec_at old.journal slot ≡ Some net
@@ -245,6 +253,7 @@ deliver-made files at slot file checked n net bytes config e old new agrees is r
 
 -- ---- questions
 
+-- a cycle of a slot where a circuit runs is answered by its outputs and the probed bit
 pub cycle-out : (files : List Contents) (slot : ℕ) (x : List ℕ) (probe : ℕ) (y : List ℕ) (bit n : ℕ) (d : TableValue)
     → journal.ReplyAt d.journal (journal.cycle slot x probe) (journal.out y bit) n
     → AnswersAlone files (length d.journal) (Cycle slot x probe) (out y bit n) d
@@ -253,6 +262,7 @@ cycle-out files slot x probe y bit n d reply =
     (subst (λ h. journal.ReplyAt h (journal.cycle slot x probe) (journal.out y bit) n)
     (all-entries d.journal n reply.all_entries) reply)
 
+-- a cycle of a slot where nothing runs
 pub cycle-vacant : (files : List Contents) (slot : ℕ) (x : List ℕ) (probe n : ℕ) (d : TableValue)
     → journal.ReplyAt d.journal (journal.cycle slot x probe) journal.vacant n
     → AnswersAlone files (length d.journal) (Cycle slot x probe) (vacant n) d
@@ -261,6 +271,7 @@ cycle-vacant files slot x probe n d reply =
     (subst (λ h. journal.ReplyAt h (journal.cycle slot x probe) journal.vacant n)
     (all-entries d.journal n reply.all_entries) reply)
 
+-- a cycle with another number of bits than the network has inputs
 pub cycle-width : (files : List Contents) (slot : ℕ) (x : List ℕ) (probe want n : ℕ) (d : TableValue)
     → journal.ReplyAt d.journal (journal.cycle slot x probe) (journal.width want) n
     → AnswersAlone files (length d.journal) (Cycle slot x probe) (width want n) d
@@ -269,6 +280,7 @@ cycle-width files slot x probe want n d reply =
     (subst (λ h. journal.ReplyAt h (journal.cycle slot x probe) (journal.width want) n)
     (all-entries d.journal n reply.all_entries) reply)
 
+-- a sweep of a slot where nothing runs
 pub sweep-vacant : (files : List Contents) (slot first count n : ℕ) (d : TableValue)
     → journal.ReplyAt d.journal (journal.sweep slot first count) journal.vacant n
     → AnswersAlone files (length d.journal) (Sweep slot first count) (vacant n) d
@@ -277,6 +289,7 @@ sweep-vacant files slot first count n d reply =
     (subst (λ h. journal.ReplyAt h (journal.sweep slot first count) journal.vacant n)
     (all-entries d.journal n reply.all_entries) reply)
 
+-- a sweep of a slot where a circuit runs is answered by counts, which have a text because a side is short
 pub sweep-ones : (files : List Contents) (slot first count : ℕ) (counts : List ℕ) (outputs n : ℕ) (d : TableValue)
     → outputs ≤ MAX_SIDE → journal.ReplyAt d.journal (journal.sweep slot first count) (journal.ones counts outputs) n
     → AnswersAlone files (length d.journal) (Sweep slot first count) (ones counts outputs n) d
@@ -293,6 +306,7 @@ answered-same files from at c r old new (inl alone) =
 answered-same files from at c r old new (inr made_one) =
     subst (IsSameDevice old) (sym made_one.2) (record { geometry = refl; slots = refl; limit = refl })
 
+-- a reply that tells of an entry says a number only, so it has a text
 made-printable : (kind : EntryKind) (number : ℕ) → IsPrintable (made kind number)
 made-printable kinds.Agreed number = tt
 made-printable kinds.Installed number = tt

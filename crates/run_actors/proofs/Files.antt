@@ -25,12 +25,14 @@ loaded-at : (uses : List FileUse) (files : List Contents) (file : ℕ) (u : File
 loaded-at uses files file u o is found =
     subst (λ p. MatchOption p (Unit {0}) (λ v. IsSomeAnd (slice_get files file) (IsOfKind v.kind))) is found
 
+-- a file that is there and is of the kind of specifications describes some network
 is_spec : (files : List Contents) (file : ℕ) (o : Option Contents) → slice_get files file ≡ o
     → IsSomeAnd o (IsOfKind SpecFile) → IsSpec files file
 is_spec files file None is found = absurd found
 is_spec files file (Some (specification net)) is found = (net, is)
 is_spec files file (Some (delivery bytes)) is found = absurd found
 
+-- and one of the kind of bundles has some bytes
 is_bundle : (files : List Contents) (file : ℕ) (o : Option Contents) → slice_get files file ≡ o
     → IsSomeAnd o (IsOfKind BundleFile) → IsBundle files file
 is_bundle files file None is found = absurd found
@@ -56,6 +58,7 @@ can-run g slots uses files loaded (Evict slot) is = is
 can-run g slots uses files loaded (Cycle slot bits probe) is = (is.0, is.3)
 can-run g slots uses files loaded (Sweep slot first count) is = is.0
 
+-- and all commands of a lane
 pub all-can_run : (g : GeometryValue) (slots : ℕ) (uses : List FileUse) (files : List Contents) → AreLoaded uses files
     → (cs : List Command) → All (IsCommand g slots uses) cs → All (CanRun g slots files) cs
 all-can_run g slots uses files loaded cs all =

@@ -152,9 +152,11 @@ pub record Extends (h later : List EntryValue) : Type 0 where
   pub longer : length h ≤ length later
   pub begins : (n : ℕ) → n ≤ length h → take n h ≡ take n later
 
+-- a command that makes no entry leaves the journal as it is
 pub extends-same : (h : List EntryValue) → Extends h h
 extends-same h = record { longer = omega arith; begins = λ n le. refl }
 
+-- an entry is added at the end, so all that came before stays
 pub extends-more : (h : List EntryValue) (e : EntryValue) → Extends h (h ++ e ∷ [])
 extends-more h e = record {
   longer = omega (arith, length-append h (e ∷ []));
@@ -186,6 +188,7 @@ still-meets s files h later rs lane turn c q extends rise found meets =
     meets-later s.geometry s.limit files h later c q
     (extends.begins (before q) (omega (arith, within, order)), extends.begins (after q) within) meets
 
+-- where one reply more meets its condition, all do: those before are kept by the journal's growth
 pub meet-command : (s : ScriptValue) (files : List Contents) (h later : List EntryValue)
     (ls : List (List Command)) (cs : List Command) (c : Command)
     (rs : List (List ReplyValue)) (r : List ReplyValue) (reply : ReplyValue)

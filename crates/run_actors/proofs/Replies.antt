@@ -23,6 +23,7 @@ use Rattle.run_actors.specs.Steps.{MakesNone}
 abbrev pub SameSoFar : List EntryValue → List EntryValue → ReplyValue → Type 0
 SameSoFar h later r = (take (before r) h ≡ take (before r) later) × (take (after r) h ≡ take (after r) later)
 
+-- a reply to a delivery speaks only of entries up to its points, so later ones don't touch it
 meets-deliver : (g : GeometryValue) (limit : ℕ) (files : List Contents) (h later : List EntryValue) (slot file : ℕ)
     (r : ReplyValue) → SameSoFar h later r → MeetsDeliver g limit files h slot file r
     → MeetsDeliver g limit files later slot file r
@@ -43,6 +44,7 @@ meets-deliver g limit files h later slot file (vacant at) same m = m
 meets-deliver g limit files h later slot file (width want at) same m = m
 meets-deliver g limit files h later slot file (ones counts outputs at) same m = m
 
+-- the same of a cycle, which speaks of one point
 meets-cycle : (h later : List EntryValue) (slot : ℕ) (bits : List ℕ) (probe : ℕ)
     (r : ReplyValue) → SameSoFar h later r → MeetsCycle h slot bits probe r → MeetsCycle later slot bits probe r
 meets-cycle h later slot bits probe (agreed at) same m = m
@@ -60,6 +62,7 @@ meets-cycle h later slot bits probe (width want at) same m =
     subst (λ p. journal.ReplyAt p (journal.cycle slot bits probe) (journal.width want) at) same.1 m
 meets-cycle h later slot bits probe (ones counts outputs at) same m = m
 
+-- the same of a sweep
 meets-sweep : (h later : List EntryValue) (slot first count : ℕ) (r : ReplyValue) → SameSoFar h later r
     → MeetsSweep h slot first count r → MeetsSweep later slot first count r
 meets-sweep h later slot first count (agreed at) same m = m
@@ -102,16 +105,19 @@ kind_in (vacant at) = Agreed
 kind_in (width want at) = Agreed
 kind_in (ones counts outputs at) = Agreed
 
+-- the kind can be read from a reply that tells of an entry
 kind_in-made : (kind : EntryKind) (number : ℕ) → kind_in (made kind number) ≡ kind
 kind_in-made Agreed number = refl
 kind_in-made Installed number = refl
 kind_in-made Evicted number = refl
 
+-- such a reply stands behind its own entry
 pub after-made : (kind : EntryKind) (number : ℕ) → after (made kind number) ≡ number
 after-made Agreed number = refl
 after-made Installed number = refl
 after-made Evicted number = refl
 
+-- and was decided before it
 pub before-made : (kind : EntryKind) (number : ℕ) → before (made kind number) ≡ number - 1
 before-made Agreed number = refl
 before-made Installed number = refl
@@ -125,6 +131,7 @@ made-same_kind k l m n same = sym (kind_in-made k m) ∙ ap kind_in same ∙ kin
 pub made-same_number : (k l : EntryKind) (m n : ℕ) → made k m ≡ made l n → m ≡ n
 made-same_number k l m n same = sym (after-made k m) ∙ ap after same ∙ after-made l n
 
+-- each of the three kinds of entries is one
 makes_some : (kind : EntryKind) (number : ℕ) → MakesNone (made kind number) → ⊥
 makes_some Agreed number none = none
 makes_some Installed number none = none

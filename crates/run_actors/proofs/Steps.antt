@@ -30,6 +30,7 @@ pub record Continues (ls more : List (List Command)) (rs later : List (List Repl
   pub commands : (lane turn : ℕ) (c : Command) → at_turn ls lane turn ≡ Some c → at_turn more lane turn ≡ Some c
   pub replies : (lane turn : ℕ) (q : ReplyValue) → at_turn rs lane turn ≡ Some q → at_turn later lane turn ≡ Some q
 
+-- a command and its reply at the end of the last lane leave all others at their turns
 continues-command : (ls : List (List Command)) (cs : List Command) (c : Command)
     (rs : List (List ReplyValue)) (r : List ReplyValue) (reply : ReplyValue)
     → Continues (ls ++ cs ∷ []) (ls ++ (cs ++ c ∷ []) ∷ []) (rs ++ r ∷ []) (rs ++ (r ++ reply ∷ []) ∷ [])
@@ -38,10 +39,12 @@ continues-command ls cs c rs r reply = record {
   replies = at_turn-longer rs r reply;
 }
 
+-- so does a lane without commands
 continues-lane : (ls : List (List Command)) (rs : List (List ReplyValue))
     → Continues ls (ls ++ [] ∷ []) rs (rs ++ [] ∷ [])
 continues-lane ls rs = record { commands = at_turn-kept ls []; replies = at_turn-kept rs [] }
 
+-- a line that came from a command still does where more commands follow
 comes-longer : (s : ScriptValue) (ls more : List (List Command)) (rs later : List (List ReplyValue))
     (journal grown : List Line) (number : ℕ) (line : Line) → Continues ls more rs later
     → ComesFromCommand (with_lanes s ls) (record { journal = journal; lanes = rs }) number line
@@ -53,6 +56,7 @@ comes-longer s ls more rs later journal grown number line k from = record {
   reply = k.replies line.lane line.turn (made line.kind number) from.reply;
 }
 
+-- a line that meant an entry still means it where more commands follow
 means-longer : (s : ScriptValue) (files : List Contents) (ls more : List (List Command))
     (rs later : List (List ReplyValue)) (h : List EntryValue) (line : Line) (e : EntryValue)
     → Continues ls more rs later
@@ -66,6 +70,7 @@ means-longer s files ls more rs later h line e k m = record {
   change = m.change;
 }
 
+-- so lines mean the same journal where more commands follow
 meant-longer : (s : ScriptValue) (files : List Contents) (ls more : List (List Command))
     (rs later : List (List ReplyValue)) (journal : List Line) (h : List EntryValue)
     → Continues ls more rs later
@@ -90,6 +95,7 @@ accepted-lane s ls rs journal a = record {
       a.replies lane turn number kind (at_turn-empty rs lane turn (made kind number) found);
 }
 
+-- a transcript stays one where a lane begins, since that has neither a command nor a reply yet
 pub transcript-lane : (s : ScriptValue) (files : List Contents) (ls : List (List Command)) (rs : List (List ReplyValue))
     (journal : List Line) (h : List EntryValue)
     → IsTranscript (with_lanes s ls) files (record { journal = journal; lanes = rs }) h
@@ -109,6 +115,7 @@ transcript-lane s files ls rs journal h t =
 
 -- ---- a command that makes no entry
 
+-- a command that makes no entry needs no line
 accepted-alone : (s : ScriptValue) (files : List Contents) (from : ℕ) (ls : List (List Command)) (cs : List Command)
     (c : Command) (rs : List (List ReplyValue)) (r : List ReplyValue) (reply : ReplyValue) (journal : List Line)
     (d : TableValue) → AnswersAlone files from c reply d
@@ -126,6 +133,7 @@ accepted-alone s files from ls cs c rs r reply journal d alone a = record {
       ];
 }
 
+-- a transcript stays one with a reply that tells of no entry
 transcript-alone : (s : ScriptValue) (files : List Contents) (ls : List (List Command)) (cs : List Command) (c : Command)
     (rs : List (List ReplyValue)) (r : List ReplyValue) (reply : ReplyValue) (d : TableValue)
     → d.geometry ≡ s.geometry → d.limit ≡ s.limit → AnswersAlone files (length d.journal) c reply d
@@ -165,6 +173,7 @@ is_commanded s ls cs c at e lane turn by_lane by_turn =
     (subst (λ n. at_turn (ls ++ (cs ++ c ∷ []) ∷ []) n (length cs) ≡ Some c) (lane ∙ sym by_lane)
     (at_turn-last ls cs c))
 
+-- and so is the turn of its reply
 is_replied : (rs : List (List ReplyValue)) (r : List ReplyValue) (reply : ReplyValue) (at : Turn) (e : EntryValue)
     → length rs ≡ at.lane → length r ≡ at.number → e.lane ≡ at.lane → e.turn ≡ at.number
     → at_turn (rs ++ (r ++ reply ∷ []) ∷ []) e.lane e.turn ≡ Some reply
@@ -181,6 +190,7 @@ pub record IsNext (ls : List (List Command)) (cs : List Command) (rs : List (Lis
   pub command : length cs ≡ at.number
   pub reply : length r ≡ at.number
 
+-- the new line comes from the new command, and the new reply has the new line
 accepted-made : (s : ScriptValue) (files : List Contents) (ls : List (List Command)) (cs : List Command)
     (c : Command) (rs : List (List ReplyValue)) (r : List ReplyValue) (reply : ReplyValue) (at : Turn)
     (d : TableValue) (e : EntryValue) (journal : List Line) → length journal ≡ length d.journal
@@ -232,6 +242,7 @@ accepted-made s files ls cs c rs r reply at d e journal count next makes a = rec
       ];
 }
 
+-- the new line means the new entry, after the same entries as before
 meant-made : (s : ScriptValue) (files : List Contents) (ls : List (List Command)) (cs : List Command)
     (c : Command) (rs : List (List ReplyValue)) (r : List ReplyValue) (reply : ReplyValue) (at : Turn)
     (d : TableValue) (e : EntryValue) (journal : List Line)
@@ -279,6 +290,7 @@ meant-made s files ls cs c rs r reply at d e journal next makes m =
           ];
     }
 
+-- a transcript stays one with an entry, its line and the reply that tells of it
 transcript-made : (s : ScriptValue) (files : List Contents) (ls : List (List Command)) (cs : List Command) (c : Command)
     (rs : List (List ReplyValue)) (r : List ReplyValue) (reply : ReplyValue) (at : Turn) (d : TableValue) (e : EntryValue)
     → length ls ≡ at.lane → length cs ≡ at.number

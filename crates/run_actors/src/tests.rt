@@ -2,10 +2,12 @@ use super::*;
 use bundle::print_bundle;
 use fabric::Geometry;
 use netlist::read_specification;
-use pch_io::OpenGate;
+use pch_io::{Gate, OpenGate};
 use run_script::{print_transcript, read_script};
 use std::alloc::Global;
-use std::sync::Arc;
+use std::sync::atomic::AtomicU64;
+use std::sync::atomic::Ordering::SeqCst;
+use std::sync::{Arc, Wait};
 use std::test::Fail;
 
 /// A negation.
@@ -52,5 +54,56 @@ fn lanes_run_one_after_another(rt: HostRuntime) -> Result<(), Fail> {
     let t = run_in_order(&rt, alloc, &script, &files, &OpenGate)?;
     let text = print_transcript(alloc, &t)?;
     assert_eq!(rt; text.as_slice(), PRINTED);
+    Ok(())
+}
+
+/// Deliveries before an agreement, after it, and of a wrong bundle; and another lane.
+const TOLD: &[u8] = b"fabric 1 1 1 1 1\nslots 1\nlimit 5\nworkers 1\nlane\ndeliver 0 inv.pch\n\
+agree 0 inv.blif\ndeliver 0 inv.pch\ndeliver 0 bad.pch\nlane\ncycle 0 1 0\nevict 0\n";
+
+/// A gate that notes the calls of two lanes, each call as two digits behind the earlier ones: 1 for
+/// `pass`, 2 for `checked` or 3 for `locked`, and then the turn.
+#[derive(Drop)]
+struct Noting {
+    first: AtomicU64,
+    second: AtomicU64,
+}
+
+impl Noting {
+    /// Notes a call behind the earlier ones of its lane.
+    fn note(&self, call: u64, lane: u32, turn: u32) {
+        let calls = if lane == 0 { &self.first } else { &self.second };
+        let earlier = calls.load(SeqCst).wrapping_mul(100);
+        calls.store(earlier.wrapping_add(call).wrapping_add(turn as u64), SeqCst);
+    }
+}
+
+impl Gate for Noting {
+    fn pass<R: Wait>(&self, _rt: &R, lane: u32, turn: u32) {
+        self.note(10, lane, turn)
+    }
+
+    fn checked<R: Wait>(&self, _rt: &R, lane: u32, turn: u32) {
+        self.note(20, lane, turn)
+    }
+
+    fn locked<R: Wait>(&self, _rt: &R, lane: u32, turn: u32) {
+        self.note(30, lane, turn)
+    }
+}
+
+#[test]
+fn the_gate_is_told_what_comes(rt: HostRuntime) -> Result<(), Fail> {
+    let alloc = rt.alloc();
+    let script = read_script(alloc, TOLD)?;
+    let files = files(alloc)?;
+    assert!(rt; are_loaded(script.files.as_slice(), &files));
+    let gate = Noting {
+        first: AtomicU64::new(0),
+        second: AtomicU64::new(0),
+    };
+    let _transcript = run_in_order(&rt, alloc, &script, &files, &gate)?;
+    assert_eq!(rt; gate.first.load(SeqCst), 10_11_31_12_22_32_13_14);
+    assert_eq!(rt; gate.second.load(SeqCst), 10_11_31_12);
     Ok(())
 }

@@ -48,6 +48,7 @@ meant-meets s files t h p line e command transcript is_line commanded =
     let from : ComesFromCommand s t (p + 1) line = transcript.accepted.lines p line is_line in
     transcript.meets line.lane line.turn command (made line.kind (p + 1)) commanded from.reply
 
+-- an entry can follow those before it, because the reply of its command met its condition there
 entry-follows : (s : ScriptValue) (files : List Contents) (t : TranscriptValue) (h : List EntryValue) (p : ℕ)
     (e : EntryValue) → DescribeNets files → IsTranscript s files t h → slice_get h p ≡ Some e
     → CanFollow s.geometry (take p h) e
@@ -60,6 +61,7 @@ entry-follows s files t h p e nets transcript is_entry =
     (change-follows s.geometry s.limit files h p line.0.slot line.0.kind means.command e.change
     (λ net spec. agreed-is_net s files t.journal h p line.0.slot net nets transcript.meant spec) means.change meets)
 
+-- an entry is of a slot that the device has, as its command is
 entry-within : (s : ScriptValue) (files : List Contents) (t : TranscriptValue) (h : List EntryValue) (p : ℕ)
     (e : EntryValue) → IsScript s → IsTranscript s files t h → slice_get h p ≡ Some e → e.slot < s.slots
 entry-within s files t h p e script transcript is_entry =
@@ -71,6 +73,7 @@ entry-within s files t h p e script transcript is_entry =
     from.commanded in
     subst (λ n. n < s.slots) (from.slot ∙ sym means.slot) (slot-within s.geometry s.slots s.files from.command is)
 
+-- so a journal that lines mean is legal, entry by entry
 pub meant-legal : (s : ScriptValue) (files : List Contents) (t : TranscriptValue) (h : List EntryValue)
     → IsScript s → DescribeNets files → IsTranscript s files t h → Legal s.geometry s.slots s.limit h
 meant-legal s files t h script nets transcript = record {
@@ -80,6 +83,7 @@ meant-legal s files t h script nets transcript = record {
   follows = λ p e found. entry-follows s files t h p e nets transcript found;
 }
 
+-- what runs is equal to what is agreed in each part of a legal journal, so its outputs are the agreed ones
 pub outputs-agree : (s : ScriptValue) (files : List Contents) (t : TranscriptValue) (h : List EntryValue)
     (lane turn slot probe bit at : ℕ) (x y : List ℕ) → IsScript s → DescribeNets files → IsTranscript s files t h
     → IsCommandAt s lane turn (Cycle slot x probe) → IsReplyAt t lane turn (out y bit at)

@@ -100,6 +100,7 @@ accepts-these g files h slot file net bytes delivered spec accepted =
     ap bytes_of (same_Some (delivery accepted.1) (delivery bytes) (sym accepted.3 ∙ delivered)) in
     subst (Accepts g net) one_text (subst (λ n. Accepts g n accepted.1) one_net accepted.4)
 
+-- an installed configuration is equal to the network, because its bundle was accepted for it at this place
 pub installed-follows : (g : GeometryValue) (limit : ℕ) (files : List Contents) (h : List EntryValue) (p slot : ℕ)
     (command : Command) (c : Change)
     → ((net : Network) → spec_at (take p h) slot ≡ Some net → IsNet net)
@@ -116,6 +117,7 @@ installed-follows g limit files h p slot command c nets m meets =
 
 -- ---- slots
 
+-- a command of a script names a slot that the device has
 pub slot-within : (g : GeometryValue) (slots : ℕ) (uses : List FileUse) (c : Command) → IsCommand g slots uses c
     → slot_of c < slots
 slot-within g slots uses (Agree slot file) is = is.0

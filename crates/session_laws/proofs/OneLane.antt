@@ -37,6 +37,7 @@ count-first p (x ∷ xs) (suc n) le passes fails =
 
 -- ---- points rise
 
+-- points never fall from one turn to the next, so not over several turns
 later-rises : (entries : ℕ) (rs : List ReplyValue) (t k : ℕ) (r q : ReplyValue) → PointsRise entries rs
     → slice_get rs t ≡ Some r → slice_get rs (t + suc k) ≡ Some q → after r ≤ before q
 later-rises entries rs t zero r q rise here there = rise.never_falls t r q here there
@@ -77,11 +78,13 @@ ends-behind entries rs u t q r rise there here le =
 
 -- ---- one lane
 
+-- a reply that tells of an entry stands behind it
 after-made : (kind : EntryKind) (number : ℕ) → after (made kind number) ≡ number
 after-made Agreed number = refl
 after-made Installed number = refl
 after-made Evicted number = refl
 
+-- and was decided before it
 before-made : (kind : EntryKind) (number : ℕ) → before (made kind number) ≡ number - 1
 before-made Agreed number = refl
 before-made Installed number = refl
@@ -95,6 +98,7 @@ only-lane (r ∷ []) zero turn q one found = (r, refl, found)
 only-lane (r ∷ []) (suc lane) turn q one found = absurd (none-some q found)
 only-lane (r ∷ more ∷ rest) lane turn q one found = absurd (omega (arith, one))
 
+-- the entries up to a reply's point are those of its turn and earlier ones, so counting these gives the point
 pub points-count : (s : ScriptValue) (files : List Contents) (t : TranscriptValue) (h : List EntryValue)
     (commands : List Command) (turn : ℕ) (reply : ReplyValue) → s.lanes ≡ commands ∷ [] → IsTranscript s files t h
     → IsReplyAt t 0 turn reply
@@ -108,6 +112,7 @@ points-count s files t h commands turn reply single transcript replied =
     (λ p line found lt. early p line found here.0 here.1 rise here.2 lt)
     (λ p line found ge. late p line found here.0 here.1 rise here.2 ge))
   where
+    -- the reply that a line comes from stands in the only lane
     reply-of : (p : ℕ) (line : Line) → slice_get t.journal p ≡ Some line → (r : List ReplyValue)
         → slice_get t.lanes 0 ≡ Some r → slice_get r line.turn ≡ Some (made line.kind (p + 1))
     reply-of p line found r is_lane =
@@ -117,6 +122,7 @@ points-count s files t h commands turn reply single transcript replied =
         let same_lane : there.0 ≡ r = same_Some there.0 r (sym there.1 ∙ is_lane) in
         subst (λ l. slice_get l line.turn ≡ Some (made line.kind (p + 1))) same_lane there.2
 
+    -- an entry before the point isn't of a later turn
     early : (p : ℕ) (line : Line) → slice_get t.journal p ≡ Some line → (r : List ReplyValue)
         → slice_get t.lanes 0 ≡ Some r → PointsRise (length t.journal) r → slice_get r turn ≡ Some reply
         → p < after reply → nat_le line.turn turn ≡ true
@@ -130,6 +136,7 @@ points-count s files t h commands turn reply single transcript replied =
           | inr le ↦ grind (arith, nat_tests, le)
         ]
 
+    -- and an entry behind it is of a later turn
     late : (p : ℕ) (line : Line) → slice_get t.journal p ≡ Some line → (r : List ReplyValue)
         → slice_get t.lanes 0 ≡ Some r → PointsRise (length t.journal) r → slice_get r turn ≡ Some reply
         → after reply ≤ p → nat_le line.turn turn ≡ false

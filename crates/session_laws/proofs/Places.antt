@@ -44,6 +44,7 @@ place-same xs ys i x count found =
 abbrev pub IsAgreedIn : List EntryValue → Network → Type 0
 IsAgreedIn h net = (q : ℕ) × (e : EntryValue) × (slice_get h q ≡ Some e) × (e.change ≡ agreed net)
 
+-- the agreed network after an entry is the entry's own, or was agreed before it
 agreed-by : (h : List EntryValue) (slot : ℕ) (net : Network) (q : ℕ) (e : EntryValue) (c : Change)
     → slice_get h q ≡ Some e → e.change ≡ c
     → spec_after (spec_at (take q h) slot) c ≡ Some net
@@ -53,6 +54,7 @@ agreed-by h slot net q e (agreed other) found is spec before =
 agreed-by h slot net q e (installed other config) found is spec before = before spec
 agreed-by h slot net q e evicted found is spec before = before spec
 
+-- an entry of another slot changes nothing that is agreed for this one
 agreed-step : (h : List EntryValue) (slot : ℕ) (net : Network) (q : ℕ) (e : EntryValue)
     → slice_get h q ≡ Some e → spec_at (take q h ++ e ∷ []) slot ≡ Some net
     → (spec_at (take q h) slot ≡ Some net → IsAgreedIn h net) → IsAgreedIn h net

@@ -28,17 +28,21 @@ HasPlainName u = is_plain u.name ≡ true
 
 -- ---- choices
 
+-- what two equal options hold is equal
 some_is : {X : Type 0} (x y : X) → Some x ≡ Some y → x ≡ y
 some_is x y e = cc
 
+-- a conjunction that holds has both its parts
 both : (a b : Bool) → (a && b) ≡ true → (a ≡ true) × (b ≡ true)
 both true b e = (refl, e)
 both false b e = absurd cc
 
+-- a choice between something and nothing that gives something was of the first
 chosen : {X : Type 0} (b : Bool) (o : Option X) (x : X) → cond b o None ≡ Some x → (b ≡ true) × (o ≡ Some x)
 chosen true o x h = (refl, h)
 chosen false o x h = absurd cc
 
+-- a choice gives one of its two
 either : {X : Type 0} (b : Bool) (o p : Option X) (x : X) → cond b o p ≡ Some x → (o ≡ Some x) ⊎ (p ≡ Some x)
 either true o p x h = inl h
 either false o p x h = inr h
@@ -50,11 +54,13 @@ abbrev SaysPlain : Said → Type 0
 SaysPlain (plain c) = Unit {0}
 SaysPlain (named kind slot name) = is_plain name ≡ true
 
+-- the word behind the number of a slot is the name
 named_with-plain : (kind : Kind) (o : Option ℕ) (name : List ℕ) (said : Said) → is_plain name ≡ true
     → named_with kind o name ≡ Some said → SaysPlain said
 named_with-plain kind None name said word h = absurd cc
 named_with-plain kind (Some slot) name said word h = subst SaysPlain (some_is (named kind slot name) said h) word
 
+-- a line that names a file has exactly two words behind its first, and the second is the name
 named-plain : (kind : Kind) (slots : ℕ) (more : List (List ℕ)) (said : Said) → list_all is_plain more ≡ true
     → named_by kind slots more ≡ Some said → SaysPlain said
 named-plain kind slots [] said words h = absurd cc
@@ -64,15 +70,18 @@ named-plain kind slots (slot ∷ name ∷ []) said words h =
     named_with-plain kind (number_below slots slot) name said (both (is_plain name) true rest).0 h
 named-plain kind slots (slot ∷ name ∷ more ∷ rest) said words h = absurd cc
 
+-- an eviction names no file
 evict_with-plain : (o : Option ℕ) (said : Said) → option_map (λ s. plain (Evict s)) o ≡ Some said → SaysPlain said
 evict_with-plain None said h = absurd cc
 evict_with-plain (Some slot) said h = subst SaysPlain (some_is (plain (Evict slot)) said h) tt
 
+-- nor does its line, however many words it has
 evict-plain : (slots : ℕ) (more : List (List ℕ)) (said : Said) → evict_by slots more ≡ Some said → SaysPlain said
 evict-plain slots [] said h = absurd cc
 evict-plain slots (slot ∷ []) said h = evict_with-plain (number_below slots slot) said h
 evict-plain slots (slot ∷ more ∷ rest) said h = absurd cc
 
+-- a cycle names no file
 cycle_with-plain : (a : Option ℕ) (b : Option (List ℕ)) (c : Option ℕ) (said : Said) → cycle_with a b c ≡ Some said
     → SaysPlain said
 cycle_with-plain None b c said h = absurd cc
@@ -81,6 +90,7 @@ cycle_with-plain (Some slot) (Some bits) None said h = absurd cc
 cycle_with-plain (Some slot) (Some bits) (Some probe) said h =
     subst SaysPlain (some_is (plain (Cycle slot bits probe)) said h) tt
 
+-- nor does its line
 cycle-plain : (slots cells : ℕ) (more : List (List ℕ)) (said : Said) → cycle_by slots cells more ≡ Some said
     → SaysPlain said
 cycle-plain slots cells [] said h = absurd cc
@@ -90,6 +100,7 @@ cycle-plain slots cells (slot ∷ bits ∷ probe ∷ []) said h =
     cycle_with-plain (number_below slots slot) (bits_in bits) (number_below cells probe) said h
 cycle-plain slots cells (slot ∷ bits ∷ probe ∷ more ∷ rest) said h = absurd cc
 
+-- a sweep names no file
 sweep_with-plain : (a b c : Option ℕ) (said : Said) → sweep_with a b c ≡ Some said → SaysPlain said
 sweep_with-plain None b c said h = absurd cc
 sweep_with-plain (Some slot) None c said h = absurd cc
@@ -97,6 +108,7 @@ sweep_with-plain (Some slot) (Some first) None said h = absurd cc
 sweep_with-plain (Some slot) (Some first) (Some count) said h =
     subst SaysPlain (some_is (plain (Sweep slot first count)) said h) tt
 
+-- nor does its line
 sweep-plain : (slots : ℕ) (more : List (List ℕ)) (said : Said) → sweep_by slots more ≡ Some said → SaysPlain said
 sweep-plain slots [] said h = absurd cc
 sweep-plain slots (slot ∷ []) said h = absurd cc
@@ -120,6 +132,7 @@ plain_by-plain slots cells first more said h =
           ]
     ]
 
+-- only the lines of agreements and deliveries name files, by words of the line
 said-plain : (slots cells : ℕ) (first : List ℕ) (more : List (List ℕ)) (said : Said) → list_all is_plain more ≡ true
     → said_by slots cells first more ≡ Some said → SaysPlain said
 said-plain slots cells first more said words h =
@@ -140,11 +153,13 @@ said-plain slots cells first more said words h =
 abbrev NamesPlain : Draft → Type 0
 NamesPlain d = All HasPlainName d.files
 
+-- a file that is mentioned again isn't added, and one that is new has a word as its name
 mentioned-plain : (files : List FileUse) (u : FileUse) (b : Bool) → All HasPlainName files → HasPlainName u
     → All HasPlainName (cond b files (files ++ u ∷ []))
 mentioned-plain files u true all one = all
 mentioned-plain files u false all one = All-push HasPlainName files u all one
 
+-- what a line says adds at most its own file
 with_said-plain : (d : Draft) (lane : List Command) (said : Said) → NamesPlain d → SaysPlain said
     → NamesPlain (with_said d lane said)
 with_said-plain d lane (plain c) names word = names
@@ -152,6 +167,7 @@ with_said-plain d lane (named kind slot name) names word =
     let file : FileUse = record { kind = kind; name = name } in
     mentioned-plain d.files file (list_any (same_use file) d.files) names word
 
+-- a line of a command keeps the names words
 with_command_line-plain : (d e : Draft) (current : Option (List Command)) (o : Option Said) → NamesPlain d
     → ((said : Said) → o ≡ Some said → SaysPlain said) → with_command_line d current o ≡ Some e → NamesPlain e
 with_command_line-plain d e None o names says h = absurd cc
@@ -160,6 +176,7 @@ with_command_line-plain d e (Some lane) (Some said) names says h =
     let made = chosen (nat_lt d.commands MAX_COMMANDS) (Some (with_said d lane said)) e h in
     subst NamesPlain (some_is (with_said d lane said) e made.1) (with_said-plain d lane said names (says said refl))
 
+-- a line that begins a lane adds no file
 with_lane-plain : (d e : Draft) (more : List (List ℕ)) → NamesPlain d → with_lane d more ≡ Some e → NamesPlain e
 with_lane-plain d e [] names h =
     let opened : Draft = record d { lanes = all_lanes d; current = Some [] } in
@@ -167,6 +184,7 @@ with_lane-plain d e [] names h =
     subst NamesPlain (some_is opened e made.1) names
 with_lane-plain d e (word ∷ more) names h = absurd cc
 
+-- nor does a line of the head
 with_head-plain : (d e : Draft) (o : Option Head) → NamesPlain d → option_map (λ h. record d { head = h }) o ≡ Some e
     → NamesPlain e
 with_head-plain d e None names h = absurd cc
@@ -174,6 +192,7 @@ with_head-plain d e (Some head) names h =
     let next : Draft = record d { head = head } in
     subst NamesPlain (some_is next e h) names
 
+-- so each line keeps the names words, whatever was read before it
 with_line-plain : (h : Head) (d e : Draft) (first : List ℕ) (more : List (List ℕ)) → list_all is_plain more ≡ true
     → NamesPlain d → with_line h d first more ≡ Some e → NamesPlain e
 with_line-plain nothing d e first more words names eq = with_head-plain d e (next_head nothing first more) names eq
@@ -192,16 +211,19 @@ with_line-plain (whole g s l w) d e first more words names eq =
           (λ said k. said-plain s (cell_count g) first more said words k) command
     ]
 
+-- an empty line changes nothing
 with_words-plain : (d e : Draft) (words : List (List ℕ)) → NamesPlain d → with_words d words ≡ Some e → NamesPlain e
 with_words-plain d e [] names h = subst NamesPlain (some_is d e h) names
 with_words-plain d e (first ∷ more) names h =
     let line = chosen (list_all is_plain (first ∷ more)) (with_line d.head d first more) e h in
     with_line-plain d.head d e first more (both (is_plain first) (list_all is_plain more) line.0).1 names line.1
 
+-- from line to line the names stay words
 follows-plain : (d : Draft) (ss : List Statement) (e : Draft) → NamesPlain d → Follows d ss e → NamesPlain e
 follows-plain d [] e names h = subst NamesPlain h names
 follows-plain d (s ∷ ss) e names h = follows-plain h.0 ss e (with_words-plain d h.0 s.words names h.1) h.2
 
+-- the script has the files of the last draft
 value-plain : (h : Head) (d : Draft) (current : Option (List Command)) (s : ScriptValue) → NamesPlain d
     → value_with h d current ≡ Some s → All HasPlainName s.files
 value-plain nothing d current s names h = absurd cc
@@ -213,6 +235,7 @@ value-plain (whole g n l w) d (Some lane) s names h =
     let v : ScriptValue = record { geometry = g; slots = n; limit = l; workers = w; files = d.files; lanes = d.lanes ++ lane ∷ [] } in
     subst (λ (x : ScriptValue). All HasPlainName x.files) (some_is v s h) names
 
+-- a text begins with no file, so each name in its script is a word
 pub text-plain : (text : List ℕ) (s : ScriptValue) → ScriptText text s → All HasPlainName s.files
 text-plain text s t =
     value-plain t.end.head t.end t.end.current s
@@ -220,9 +243,11 @@ text-plain text s t =
 
 -- ---- words as text
 
+-- a printing byte is below 128
 sign-small : (b : ℕ) → is_sign b ≡ true → b < 128
 sign-small b sign = grind (arith, nat_tests, (both (nat_le 33 b) (nat_le b 126) sign).1)
 
+-- so a word is ASCII
 word-ascii : (word : List ℕ) → is_plain word ≡ true → IsAscii word
 word-ascii [] plain_word i = omega arith
 word-ascii (b ∷ bs) plain_word zero = sign-small b (both (is_sign b) (list_all is_sign bs) plain_word).0

@@ -32,6 +32,7 @@ Stops told used left uses i =
     (before now n : ℕ) (fault : FileFault) → StopsAt told before now used left n fault
     → StopsAt told before now 0 uses (i + n) fault
 
+-- one usable file more, so what is left begins one place later, behind that many more bytes
 pub completes-next : (told : Option Files) (used size i : ℕ) (uses : List FileUse) (u : FileUse) (files : List Loaded)
     (loaded : Loaded) → slice_get uses i ≡ Some u → IsOfSize told used u (contents_of loaded) size
     → Completes told used (drop i uses) uses (map contents_of files)
@@ -48,6 +49,7 @@ completes-next told used size i uses u files loaded found usable so_far more lon
     (subst (λ us. AreUsable told used us (contents_of loaded ∷ rest)) (sym left)
     (usable.0, usable.1, subst (λ n. AreUsable told (used + n) (drop (i + 1) uses) rest) usable.2 later)))
 
+-- and a file at which the rest stops is counted from one place later
 pub stops-next : (told : Option Files) (used size i : ℕ) (uses : List FileUse) (u : FileUse) (c : Contents)
     → slice_get uses i ≡ Some u → IsOfSize told used u c size → Stops told used (drop i uses) uses i
     → Stops told (used + size) (drop (i + 1) uses) uses (i + 1)

@@ -14,6 +14,7 @@ use Rattle.run_actors.specs.Steps.{Answered}
 use Rattle.run_actors.proofs.Answering.{all-entries, deliver-refusal}
 use Rattle.run_actors.proofs.deliveries.deliver.Goals as goal
 
+-- the check was made against the network that is still agreed, since a check changes nothing of the device
 pub returns-in-Err : goal.returns-in-Err
 returns-in-Err g c =
     let device = c.args.device.now in
@@ -30,6 +31,7 @@ returns-in-Err g c =
     (arc_value c.in-Some.net) c.bytes_in-bytes.result.now device device agrees c.bytes_in-bytes.ensures refuses given.1
     c.entries-checked.ensures refl)) c.refused.ensures
 
+-- what was accepted for the agreed network is installed, as `install` promises
 pub returns : goal.returns
 returns g c =
     let device = c.args.device.now in

@@ -8,6 +8,7 @@ use Rattle.run_actors.specs.Progress.{IsSameDevice}
 use Rattle.run_actors.proofs.Answering.{answered-same}
 use Rattle.run_actors.proofs.lanes.run_command.Goals as goal
 
+-- what answers an eviction keeps the fabric, the slots and the limit
 pub returns-in-Evict-clause-device : goal.returns-in-Evict-clause-device
 returns-in-Evict-clause-device g c =
     let device = c.args.device.now in
@@ -16,6 +17,7 @@ returns-in-Evict-clause-device g c =
     (λ r given. answered-same files (length device.journal) c.args.at (Evict c.in-Evict.slot) (reply_of r) device
     c.evict.new.self (given files)) c.evict.ensures
 
+-- an eviction is answered as the device promises
 pub returns-in-Evict-clause-reply : goal.returns-in-Evict-clause-reply
 returns-in-Evict-clause-reply g c =
     let device = c.args.device.now in
@@ -24,6 +26,7 @@ returns-in-Evict-clause-reply g c =
     (λ r given. subst (λ d. Answered files (length device.journal) c.args.at d (reply_of r) device c.evict.new.self)
     (sym c.in-Evict.is) (given files)) c.evict.ensures
 
+-- a cycle makes no entry and leaves the device as it was
 pub returns-in-Cycle-clause-reply : goal.returns-in-Cycle-clause-reply
 returns-in-Cycle-clause-reply g c =
     let device = c.args.device.now in
@@ -31,6 +34,7 @@ returns-in-Cycle-clause-reply g c =
     subst (λ d. Answered files (length device.journal) c.args.at d (reply_of c.cycle.result) device c.cycle.new.self)
     (sym c.in-Cycle.is) (inl (c.cycle.ensures.reply files, c.cycle.ensures.same))
 
+-- and so does a sweep
 pub returns-in-Sweep-clause-reply : goal.returns-in-Sweep-clause-reply
 returns-in-Sweep-clause-reply g c =
     let device = c.args.device.now in

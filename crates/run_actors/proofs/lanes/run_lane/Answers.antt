@@ -12,6 +12,7 @@ use Rattle.run_actors.proofs.Answering.{answered-printable}
 use Rattle.run_actors.proofs.Listing.{same-device, lane-begins, lane-next}
 use Rattle.run_actors.proofs.lanes.run_lane.Goals as goal
 
+-- no command was run yet
 pub loop-number-init : goal.loop-number-init
 loop-number-init g c =
     let device = c.args.device.now in
@@ -24,6 +25,7 @@ loop-number-init g c =
           (sym c.new-replies.ensures) (lane-begins files c.args.lane device);
     }
 
+-- one command more was run, at the next turn
 pub loop-number-preserved : goal.loop-number-preserved
 loop-number-preserved g c =
     let files = map contents_of c.args.files.now in

@@ -7,6 +7,7 @@ use Rattle.run_actors.specs.Loading.{contents_of, IsOfKind}
 use Rattle.run_actors.proofs.Files.{kind-at, loaded-more, loaded-whole}
 use Rattle.run_actors.proofs.loaded.are_loaded.Goals as goal
 
+-- lists of different lengths don't match each other
 pub returns-then-uses-files : goal.returns-then-uses-files
 returns-then-uses-files c = (
   λ wrong. grind (arith, wrong),
@@ -19,6 +20,7 @@ returns-then-uses-files c = (
       )),
 )
 
+-- one file of another kind is enough for no
 pub returns-then-not-is_of_kind : goal.returns-then-not-is_of_kind
 returns-then-not-is_of_kind c =
     let in_files : c.loop-i.i < length c.args.files.now = omega (arith, c.loop-i-test.true, c.if-uses-files.false) in (
@@ -33,6 +35,7 @@ returns-then-not-is_of_kind c =
           c.index-files-i.is)),
     )
 
+-- all places were looked at
 pub returns : goal.returns
 returns c = (
   λ _. loaded-whole c.args.uses.now c.args.files.now c.loop-i.i c.loop-i-test.false
@@ -40,6 +43,7 @@ returns c = (
   λ _. refl,
 )
 
+-- one file more is of its kind
 pub loop-i-preserved : goal.loop-i-preserved
 loop-i-preserved c =
     let in_files : c.loop-i.i < length c.args.files.now = omega (arith, c.loop-i-test.true, c.if-uses-files.false) in

@@ -7,6 +7,7 @@ use Rattle.journal_defs.specs.Legality.{IsInstallable}
 use Rattle.slot_core.proofs.Places.{shared-value, shared-nothing, running-is_installable, unagreed-is_vacant}
 use Rattle.run_actors.proofs.queries.sweep.Goals as goal
 
+-- a circuit runs only where a network is agreed, so this can't be
 pub returns-in_default-net-clause-reply : goal.returns-in_default-net-clause-reply
 returns-in_default-net-clause-reply c =
     let look = c.look-contents.ensures in
@@ -28,16 +29,19 @@ installable c =
     (sym look.contents.running ∙ shared-value c.look-contents.result.now.config c.in-Some.config c.in-Some.is)
     (sym look.contents.spec ∙ shared-value c.look-contents.result.now.net c.in-Some-net.net c.in-Some-net.is)
 
+-- the network fits the pads, because what runs is equal to it
 pub ones_of-requires-clause-fits : goal.ones_of-requires-clause-fits
 ones_of-requires-clause-fits c =
     subst (λ n. FitsPads n c.deref-2.result.now.geometry) (sym c.deref.ensures)
     (subst (λ (k : ConfigValue). FitsPads (arc_value c.in-Some-net.net) k.geometry) (sym c.deref-2.ensures)
     (installable c).equal.fits)
 
+-- the room for wires was made for the device's fabric, which is that of what runs
 pub ones_of-requires-clause-wires : goal.ones_of-requires-clause-wires
 ones_of-requires-clause-wires c =
     c.requires.wires ∙ sym (ap (λ (k : ConfigValue). k.geometry) c.deref-2.ensures ∙ (installable c).geometry)
 
+-- the counts are those of the network and the configuration that were found in the slot
 pub returns-clause-reply : goal.returns-clause-reply
 returns-clause-reply c files =
     let look = c.look-contents.ensures in

@@ -15,6 +15,7 @@ use Rattle.run_actors.proofs.Files.{all-can_run}
 use Rattle.run_actors.proofs.Listing.{session-next}
 use Rattle.run_actors.proofs.running.run_in_order.Goals as goal
 
+-- the script's commands can run, since each file is loaded as what it is used as
 pub run_lane-requires-clause-commands : goal.run_lane-requires-clause-commands
 run_lane-requires-clause-commands g c =
     let s = c.args.s.now in
@@ -34,6 +35,7 @@ run_lane-requires-clause-commands g c =
     (sym c.loop-lane.invariant.runs.geometry) all)) in
     λ _ _. can
 
+-- one lane more was run, on the device that the lanes before it left
 pub loop-lane-preserved : goal.loop-lane-preserved
 loop-lane-preserved g c =
     let s = c.args.s.now in

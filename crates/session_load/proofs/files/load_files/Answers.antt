@@ -9,12 +9,14 @@ use Rattle.session_load.specs.Usable.{IsOfSize, FileCause}
 use Rattle.session_load.proofs.Usables.{completes-next, stops-next, stops-here, completes-all, usable-loaded}
 use Rattle.session_load.proofs.files.load_files.Goals as goal
 
+-- the name of the next file is a text, as all names are
 pub load_next-requires-clause-name : goal.load_next-requires-clause-name
 load_next-requires-clause-name g c =
     subst (λ (u : FileUse). IsUtf8 u.name) (sym c.index-uses-i.is)
     (All-get_or (λ (u : FileUse). IsUtf8 u.name) c.args.uses.now c.loop-i.i c.index-uses-i.result c.loop-i-test.true
     c.requires.names)
 
+-- the files before this one can be used, and the store didn't fail until it was loaded
 pub returns-in-Err-clause-fault : goal.returns-in-Err-clause-fault
 returns-in-Err-clause-fault g c =
     let uses = c.args.uses.now in
@@ -28,6 +30,7 @@ returns-in-Err-clause-fault g c =
     (subst (λ t. FileCause t (g.S.Store.faults c.loop-i.store) (g.S.Store.faults c.load_next.new.store) c.loop-i.used c.index-uses-i.result c.in-Err.fault)
     c.loop-i.invariant.told c.in-Err.ensures.cause))
 
+-- one file more can be used
 pub loop-i-preserved : goal.loop-i-preserved
 loop-i-preserved g c =
     let uses = c.args.uses.now in
@@ -48,11 +51,13 @@ loop-i-preserved g c =
           found sized c.loop-i.invariant.stops;
     }
 
+-- no file is left
 pub returns-clause-usable : goal.returns-clause-usable
 returns-clause-usable g c =
     completes-all (g.S.Store.files c.args.store.now) c.loop-i.used c.loop-i.i c.args.uses.now c.loop-i.files.items
     c.loop-i-test.false c.loop-i.invariant.usable
 
+-- what can be used is loaded as what it is used as
 pub returns-clause-kinds : goal.returns-clause-kinds
 returns-clause-kinds g c =
     usable-loaded (g.S.Store.files c.args.store.now) 0 c.args.uses.now (map contents_of c.loop-i.files.items)

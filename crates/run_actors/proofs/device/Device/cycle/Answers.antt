@@ -5,6 +5,7 @@ use Rattle.run_script.specs.Replies.{reply_of}
 use Rattle.run_actors.specs.Steps.{AnswersAlone}
 use Rattle.run_actors.proofs.device.Device.cycle.Goals as goal
 
+-- the answer of the slots is the reply, of the table that the device has inside
 pub returns-clause-reply : goal.returns-clause-reply
 returns-clause-reply c files =
     subst (λ (t : TableValue). AnswersAlone files (length t.journal) (Cycle c.args.slot c.args.bits c.args.probe)

@@ -8,6 +8,7 @@ use Rattle.run_actors.proofs.device.Device.install.Goals as goal
 room-left : (full : Bool) (n limit : ℕ) → full ≡ false → Decides full (n ≡ limit) → n ≤ limit → n < limit
 room-left full n limit is decides le = grind (arith, is, decides, le)
 
+-- the network of what was accepted is the agreed one, and there is room, by the two tests before
 pub returns : goal.returns
 returns c files file bytes delivered accepted agreed earlier =
     let holds : IsTrue c.is_agreed.result = search rules in

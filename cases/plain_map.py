@@ -10,7 +10,8 @@ It follows docs/formats.md in the plainest way and shares no code with the progr
 inputs and 2 for cells of six. `check` follows each pin and each output pad back through the tracks, asks that
 each live signal has one track on all its channels and that all else is off, and then evaluates the design and
 the fabric for all inputs, or for many random ones. `compare` prints its seed, so that a difference can be found
-again.
+again; each design is placed where there is just enough of everything and where there is more, and refused where
+there is one too few of a resource.
 """
 import os
 import random
@@ -43,20 +44,23 @@ class Design:
         place = {name: s for s, name in enumerate(inputs + [out for _, out, _ in covers])}
         self.inputs = len(inputs)
         self.outputs = [place[name] for name in outputs]
-        self.nodes = []
+        self.nodes, self.answers = [], {}
         for ins, _, rows in covers:
             on = not rows or rows[0][-1] == "1"
             marks = [row[0] if ins else "" for row in rows]
             self.nodes.append(([place[name] for name in ins], on, marks))
 
     def values(self, bits):
-        """The bits of all signals, and so of the outputs."""
+        """The bits of all signals, and so of the outputs; what was asked before is kept."""
+        if tuple(bits) in self.answers:
+            return self.answers[tuple(bits)]
         known = dict(enumerate(bits))
         while len(known) < self.inputs + len(self.nodes):
             for v, (fan_ins, on, rows) in enumerate(self.nodes):
                 if self.inputs + v not in known and all(s in known for s in fan_ins):
                     known[self.inputs + v] = node_bit(on, rows, [known[s] for s in fan_ins])
-        return [known[s] for s in self.outputs]
+        self.answers[tuple(bits)] = [known[s] for s in self.outputs]
+        return self.answers[tuple(bits)]
 
 
 def joined_lines(text):
@@ -320,69 +324,95 @@ def place(mapping, geometry, kind):
 
 
 def random_design():
-    """A text with covers of up to nine inputs, in any order in the file."""
-    inputs = ["i%d" % i for i in range(random.randint(0, 10))]
+    """A text with covers of up to twelve inputs, which stand in the file in any order or the last one first."""
+    inputs = ["i%d" % i for i in range(random.randint(0, 8))]
     names, covers = list(inputs), []
     for v in range(random.randint(1, 12)):
-        ins = [random.choice(names) for _ in range(random.randint(0, 9))] if names else []
+        ins = [random.choice(names) for _ in range(random.randint(0, 12))] if names else []
         rows = ["".join(random.choice("01-") for _ in ins) for _ in range(random.randint(0, 6))]
         end = random.choice("01")
         covers.append(".names %s\n" % " ".join(ins + ["n%d" % v]) + "".join("%s %s\n" % (row, end) if ins else end + "\n" for row in rows))
         names.append("n%d" % v)
     outputs = random.sample(names, random.randint(1, min(6, len(names))))
-    random.shuffle(covers)
+    random.choice([random.shuffle, list.reverse])(covers)
     return ".inputs %s\n.outputs %s\n%s.end\n" % (" ".join(inputs), " ".join(outputs), "".join(covers))
 
 
-def random_geometry(mapping):
-    """Often just enough of everything, and often one too few of something."""
+# the resources in the order of the numbers of a geometry, with the greatest numbers
+RESOURCES = [("columns", 64), ("cells", 64), ("tracks", 256), ("input-pads", 64), ("output-pads", 64)]
+
+
+def least_geometry(mapping):
+    """Just enough of everything; each number is 1 at least."""
     columns = max((c + 1 for c in mapping.columns.values()), default=1)
-    columns = min(64, max(1, columns + random.choice([-1, 0, 0, 0, 1, 2])))
     rows = max((list(mapping.columns.values()).count(c) for c in range(columns)), default=1)
     spans = mapping.live(columns).values()
     tracks = max(sum(first <= c <= last for first, last in spans) for c in range(columns + 1))
-    near = lambda n, limit: min(limit, max(1, n + random.choice([-1, 0, 0, 0, 0, 1, 3])))
-    return columns, near(rows, 64), near(tracks, 256), near(mapping.inputs, 64), near(len(mapping.outputs), 64)
+    return tuple(max(1, n) for n in (columns, rows, tracks, mapping.inputs, len(mapping.outputs)))
+
+
+def geometries(mapping):
+    """Just enough of everything; some more of everything; and one too few of each resource in turn, with what the
+    refusal begins with. None where the design is too large for every fabric."""
+    least = least_geometry(mapping)
+    if any(n > most for n, (_, most) in zip(least, RESOURCES)):
+        return
+    yield least, "fits"
+    yield tuple(min(most, n + random.choice([0, 1, 3])) for n, (_, most) in zip(least, RESOURCES)), "fits"
+    for at, (resource, _) in enumerate(RESOURCES):
+        if least[at] > 1:
+            yield least[:at] + (least[at] - 1,) + least[at + 1:], "unroutable %s " % resource
+
+
+def judge(program, design, text_name, out_name, geometry, kind, begins):
+    """What is wrong with the program's answer; empty where it is right."""
+    mapping = Mapping(design)
+    shown = first_over(mapping, geometry)
+    expect(shown.startswith(begins), "the plain program itself says %s" % shown)
+    with open(out_name, "wb") as file:
+        file.write(b"old")
+    words = ["six"] * (kind - 1) + ["place", text_name, *map(str, geometry), out_name]
+    done = subprocess.run([program, *words], capture_output=True, text=True)
+    with open(out_name, "rb") as file:
+        data = file.read()
+    if shown == "fits":
+        shown = "written %d" % len(data)
+        try:
+            check(design, data, geometry, kind)
+        except ValueError as error:
+            return "%s: %s" % (" ".join(words), error)
+    elif data != b"old":
+        return "%s: the old file has changed" % " ".join(words)
+    if done.stdout != shown + "\n" or done.stderr or done.returncode != (7 if shown.startswith("unroutable") else 0):
+        return "%s: status %d, printed %r, not %r" % (" ".join(words), done.returncode, done.stdout, shown)
+    return ""
 
 
 def compare(program, rounds, seed):
     random.seed(seed)
-    fitting = 0
+    counts = {"fits": 0}
     with tempfile.TemporaryDirectory() as folder:
         text_name, out_name = os.path.join(folder, "d"), os.path.join(folder, "o")
         for _ in range(rounds):
-            text, kind = random_design(), random.choice([1, 2])
+            text = random_design()
             design = Design(text)
-            mapping = Mapping(design)
-            geometry = random_geometry(mapping)
-            shown = first_over(mapping, geometry)
             with open(text_name, "w") as file:
                 file.write(text)
-            if os.path.exists(out_name):
-                os.remove(out_name)
-            words = ["six"] * (kind - 1) + ["place", text_name, *map(str, geometry), out_name]
-            done = subprocess.run([program, *words], capture_output=True, text=True)
-            fault = None
-            if shown == "fits" and done.returncode == 0 and os.path.exists(out_name):
-                fitting += 1
-                with open(out_name, "rb") as file:
-                    data = file.read()
-                try:
-                    check(design, data, geometry, kind)
-                except ValueError as error:
-                    fault = str(error)
-                shown = "written %d" % len(data)
-            if fault or done.stdout != shown + "\n" or done.stderr:
-                print("seed %d: %s printed %r, not %r%s, on the design\n%s"
-                      % (seed, " ".join(words), done.stdout, shown, ": " + fault if fault else "", text))
-                return 1
-    print("plain_map: %d random designs, %d of which fit, seed %d" % (rounds, fitting, seed))
+            for geometry, begins in geometries(Mapping(design)):
+                for kind in (1, 2):
+                    fault = judge(program, design, text_name, out_name, geometry, kind, begins)
+                    if fault:
+                        print("seed %d: %s, on the design\n%s" % (seed, fault, text))
+                        return 1
+                    counts[begins] = counts.get(begins, 0) + 1
+    fits = counts.pop("fits")
+    print("plain_map: %d random designs, %d placed, %d refused, seed %d" % (rounds, fits, sum(counts.values()), seed))
     return 0
 
 
 def main(words):
     if words[0] == "compare":
-        rounds = int(words[2]) if len(words) > 2 else 100
+        rounds = int(words[2]) if len(words) > 2 else 40
         return compare(words[1], rounds, int(words[3]) if len(words) > 3 else random.randrange(10**9))
     with open(words[1]) as file:
         design = Design(file.read())

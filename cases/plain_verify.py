@@ -7,7 +7,8 @@ The judge follows docs/formats.md in the plainest way and shares no code with th
 a trace is a list, the miter is made clause by clause, and each trace is checked from its first clause to its
 last. Each round takes the refutation of the inverter's miter, changes it at random (literals, antecedents,
 indices, the sign in place of literals, clauses left out or moved), and asks `check`, and `verify` with several
-counts of workers. It prints the seed, so that a difference can be found again.
+counts of workers. Every eighth trace has clauses with the sign in rounds that are wide enough to be divided among
+workers. It prints the seed, so that a difference can be found again.
 """
 import hashlib
 import os
@@ -191,6 +192,17 @@ def change(trace, variables):
     return trace
 
 
+def widened(trace):
+    """The trace with clauses that have the sign before its last one, in few rounds of many, each of which goes forth
+    and back between two literals that the originals 2 and 3 make equal; then its last clause rests on one of them."""
+    rounds, width, steps = random.randint(1, 3), random.randint(32, 80), random.randint(130, 200)
+    last, wide = trace.pop(), []
+    for k in range(rounds * width):
+        first = 27 if k < width or random.random() < 0.1 else random.choice(wide[-width:])[0]
+        wide.append([100 + k, None, [first] + [2, 3] * steps])
+    return trace + wide + [[last[0], last[1], [wide[-1][0], *last[2][1:]]]]
+
+
 def bundle(version, config, trace):
     whole = b"PCHB" + struct.pack(">6H", version, 1, 1, 1, 1, 1)
     whole += struct.pack(">I", len(config)) + config + struct.pack(">I", len(trace)) + trace
@@ -206,7 +218,7 @@ def main():
     runs = 0
     with tempfile.TemporaryDirectory() as folder:
         names = [os.path.join(folder, name) for name in ("s", "b", "c", "t")]
-        for _ in range(rounds):
+        for turn in range(rounds):
             kind = random.choice([1, 2])
             config = CONFIGS[kind]
             cells, outputs = sources((1, 1, 1, 1, 1), kind, struct.unpack(">%dH" % (len(config) // 2), config))
@@ -214,6 +226,8 @@ def main():
             cnf = "p cnf %d %d\n" % (variables, len(formula))
             cnf += "".join(" ".join(map(str, sorted(c, key=abs))) + " 0\n" for c in formula)
             trace = read_trace(right)
+            if turn % 8 == 0:
+                trace = widened(trace)
             for _ in range(random.randrange(4)):
                 if trace:
                     trace = change(trace, variables)

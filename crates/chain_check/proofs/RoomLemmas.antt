@@ -101,6 +101,22 @@ module _ (t : List Entry) (k : ℕ) (room : Room) (is : IsTrace t) (within : k <
       narrow = subst (λ n. n ≤ 2 * other.marks.variables * signs_before t (suc k)) (sym total) (subst (λ v. room.computed.total + length s ≤ 2 * v * signs_before t (suc k)) (sym variables) total_narrow);
     })
 
+-- ---- the clause of a chain, over literals within the variables
+
+module _ (t : List Entry) (k variables : ℕ) (computed : List Lits) (over : (p : ℕ) → AreOver variables (literals_at t computed p))
+    (s : Lits) (chain : Resolves (antecedents_known t computed k) s) where
+  -- each literal that the chain came to is of an antecedent
+  pub aside_place : (l : Literal) → Has s l → (p : ℕ) × Has (antecedents_at t k) p × Has (literals_at t computed p) l
+  aside_place l h = place_from (literals_at t computed) (antecedents_at t k) s l chain h
+
+  -- what the chain came to is over the variables
+  pub aside_over : AreOver variables s
+  aside_over l h = let p = aside_place l h in over p.0 l p.2
+
+  -- so it has at most two literals for each of them
+  pub aside_length : IsOrdered s → length s ≤ 2 * variables
+  aside_length ordered = over_length s variables ordered aside_over
+
 -- ---- the last clause
 
 -- the literals known of a clause are none just where the clause is empty

@@ -3,3 +3,4 @@ pub mod Steps
 pub mod ByPlace
 pub mod Known
 pub mod Rooms
+pub mod Aside

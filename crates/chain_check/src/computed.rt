@@ -1,4 +1,5 @@
 ghost use Rattle.std.specs.Prelude.{◌≡◌, ◌+◌, ◌^◌, ◌<◌, ◌≤◌, [], length, get_or, set, replicate, IfOk};
+ghost use Rattle.std.specs.Bool.{OnTrue};
 ghost use Rattle.clause_defs.specs.Clauses.{Lits};
 ghost use Rattle.chain_check.specs.ByPlace.{ClausesByPlace, parts_of, EachEndsBy};
 
@@ -68,6 +69,13 @@ impl Computed {
         ensures within { EachEndsBy (length result.1.now) result.0.now }
     {
         (&self.spans, &self.lits)
+    }
+
+    /// Whether there is room for so many literals more.
+    pub(crate) fn fits(&self, literals: usize) -> bool
+        ensures { OnTrue result (self.now.total + literals ≤ self.now.room) }
+    {
+        literals <= self.lits.capacity() - self.lits.len()
     }
 
     /// Puts the literals of a clause at its place. Takes no memory.

@@ -24,4 +24,5 @@ pub use clause_defs::{ChainError, Verdict};
 pub use computed::Computed;
 pub use marks::Marks;
 pub use room::{Room, Stop};
+pub use stated::original_fault;
 pub use trace::{check_room, check_trace};

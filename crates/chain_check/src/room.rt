@@ -1,14 +1,16 @@
-ghost use Rattle.std.specs.Prelude.{◌≡◌, ◌≢◌, ℕ, ◌+◌, ◌*◌, ◌<◌, ◌≤◌, ◌↔◌, List, [], length, min, vec_capacity, Some, None, Ok, IfOk, IfSome, IfNone, IsTrue};
+ghost use Rattle.std.specs.Prelude.{◌≡◌, ◌≢◌, ℕ, ◌+◌, ◌-◌, ◌*◌, ◌<◌, ◌≤◌, ◌↔◌, List, [], length, min, vec_capacity, set, Some, None, Ok, IfOk, IfSome, IfNone, IsTrue};
+ghost use Rattle.std.specs.Bool.{OnTrue};
 ghost use Rattle.clause_defs.specs.Literals.{Literal};
 ghost use Rattle.sat_values.specs.TraceArrays.{greatest_variable};
 ghost use Rattle.clause_defs.specs.Clauses.{Lits, Has, SameSet, WithinVariables};
 ghost use Rattle.clause_defs.specs.Resolution.{Resolves};
-ghost use Rattle.clause_defs.specs.Traces.{IsTrace, IsCompactAt, stated_at, index_at, lits_at, antecedents_at};
+ghost use Rattle.clause_defs.specs.Traces.{Entry, IsTrace, IsCompactAt, stated_at, index_at, lits_at, antecedents_at};
 ghost use Rattle.clause_defs.specs.Verdicts.{ChainFault, ClauseFault, EndsEmpty};
 ghost use Rattle.clause_defs.specs.declared.verdict.ChainError.{ChainError};
 ghost use Rattle.clause_defs.specs.declared.verdict.Verdict.{Verdict};
+ghost use Rattle.chain_check.specs.Aside.{ChainGives};
 ghost use Rattle.chain_check.specs.ByPlace.{parts_of, EachEndsBy};
-ghost use Rattle.chain_check.specs.Known.{literals_at, antecedents_known, IsKnownBefore, signs_before};
+ghost use Rattle.chain_check.specs.Known.{literals_at, antecedents_known, AreOver, IsKnownBefore, signs_before};
 ghost use Rattle.chain_check.specs.Rooms.{IsRoomFor, KnowsBefore, StopsAt, SignsAreRight, IsFirstFault};
 
 use crate::chain::{follow, known_literals};
@@ -71,7 +73,7 @@ impl Room {
     }
 
     /// Takes out what an earlier check left.
-    pub(crate) fn clear(&mut self, t: &Trace)
+    pub fn clear(&mut self, t: &Trace)
         requires room { IsRoomFor t.now self.old }
         ensures room { IsRoomFor t.now self.new }
         ensures limit { self.new.limit ≡ self.old.limit }
@@ -163,6 +165,77 @@ impl Room {
         } else {
             None
         }
+    }
+
+    /// Room for a clause over the variables of the trace, besides that of the room.
+    pub fn more_room(&self, alloc: Global) -> Result<Vec<Lit>, NoMemory>
+        ensures { IfOk result (λ c. 2 * self.now.marks.variables ≤ vec_capacity c) }
+    {
+        Ok(Vec::with_capacity(alloc, 2 * self.marks.variables() as usize)?)
+    }
+
+    /// How many literals more the clauses with the sign may have.
+    pub fn leave(&self) -> u32
+        ensures { result ≡ self.now.limit - self.now.computed.total }
+    {
+        self.limit.saturating_sub(self.computed.total())
+    }
+
+    /// Computes the clause at place `k`, counted from 0, which has the sign, into a list with room for
+    /// it, with marks besides those of the room: whether its chain has no fault and the clause at most
+    /// so many literals.
+    pub fn compute_aside(
+        &self,
+        t: &Trace,
+        k: u32,
+        most: u32,
+        m: &mut Marks,
+        list: &mut Vec<Lit>,
+    ) -> bool
+        requires within { k < length t.now }
+        requires sign { IsCompactAt t.now k }
+        requires trace { IsTrace t.now }
+        requires over { (p : ℕ) → AreOver m.old.variables
+            (literals_at t.now self.now.computed.clauses p) }
+        requires room { 2 * m.old.variables ≤ vec_capacity list.old }
+        ensures gives { OnTrue result (ChainGives (index_at t.now k)
+            (antecedents_known t.now self.now.computed.clauses k) list.new.items) }
+        ensures few { OnTrue result (length list.new.items ≤ most) }
+        ensures variables { m.new.variables ≡ m.old.variables }
+        ensures room { vec_capacity list.new ≡ vec_capacity list.old }
+    {
+        list.clear();
+        let (spans, lits) = self.computed.parts();
+        let Ok(()) = follow(t, spans, lits, k, m) else {
+            return false;
+        };
+        if m.len() > most as usize {
+            return false;
+        }
+        gather(t, spans, lits, k, m, list);
+        true
+    }
+
+    /// Keeps literals as those of the clause at place `k`, counted from 0, and says whether there is
+    /// leave and room for them.
+    pub fn put_aside(&mut self, k: u32, lits: &[Lit]) -> bool
+        requires { k < length self.old.computed.clauses }
+        ensures limit { self.new.limit ≡ self.old.limit }
+        ensures variables { self.new.marks.variables ≡ self.old.marks.variables }
+        ensures clauses { OnTrue result
+            (self.new.computed.clauses ≡ set self.old.computed.clauses k lits.now) }
+        ensures total { OnTrue result
+            (self.new.computed.total ≡ self.old.computed.total + length lits.now) }
+        ensures within { OnTrue result (self.new.computed.total ≤ self.old.limit) }
+        ensures room { (t : List Entry) → IsRoomFor t self.old → IsRoomFor t self.new }
+    {
+        let limit = self.limit;
+        let literals = u64::from(self.computed.total()) + lits.len() as u64;
+        if literals > u64::from(limit) || !self.computed.fits(lits.len()) {
+            return false;
+        }
+        self.computed.put(k, lits);
+        true
     }
 
     /// The fault of the first faulty clause at the places from `from` to before `to`, where the clauses

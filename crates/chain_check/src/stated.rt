@@ -42,8 +42,9 @@ pub(crate) fn stated_fault(
     differs(t, k, m)
 }
 
-/// The fault of a clause without antecedents, if it isn't one of the list.
-fn original_fault(f: &ClauseSet, t: &Trace, k: u32) -> Option<Verdict>
+/// The fault of the clause at place `k`, counted from 0, which has no antecedents, if it isn't one of
+/// the list.
+pub fn original_fault(f: &ClauseSet, t: &Trace, k: u32) -> Option<Verdict>
     requires within { k < length t.now }
     requires original { antecedents_at t.now k ≡ [] }
     ensures fault { (w : ℕ) → ClauseFault f.now.clauses t.now w k result }

@@ -16,15 +16,29 @@ impl Inputs {
         }
     }
 
+    /// The next word.
+    fn next_word(&mut self) -> u64 {
+        self.word ^= self.word << 13;
+        self.word ^= self.word >> 7;
+        self.word ^= self.word << 17;
+        self.word
+    }
+
     /// The next input of so many bits.
     pub(crate) fn next(&mut self, len: u32) -> Bits
         requires { len ≤ 64 }
         ensures { length result ≡ len }
     {
-        self.word ^= self.word << 13;
-        self.word ^= self.word >> 7;
-        self.word ^= self.word << 17;
-        low_bits(self.word, len)
+        low_bits(self.next_word(), len)
+    }
+
+    /// Makes the words the next ones, each with bits for sixty-four inputs.
+    pub(crate) fn fill(&mut self, words: &mut [u64])
+        ensures { length words.new ≡ length words.old }
+    {
+        for i in 0..words.len() {
+            words[i] = self.next_word();
+        }
     }
 }
 

@@ -2,21 +2,24 @@
 //!
 //!     circuit_bench net SPEC TIMES
 //!     circuit_bench fabric C R T I O CONFIG TIMES
+//!     circuit_bench lanes C R T I O CONFIG TIMES
+//!     circuit_bench ones C R T I O CONFIG COUNT
 //!     circuit_bench miter SPEC C R T I O CONFIG
 //!
-//! The word `six` may stand before `fabric` and `miter`: the cells then have six inputs.
+//! The word `six` may stand before all but `net`: the cells then have six inputs.
 //!
-//! The inputs of each time are made by a fixed rule, and the program prints how many bits of all
-//! outputs were 1, modulo 2^64. Of a miter it prints how many clauses it has. It ends with status 1
-//! where the words have no meaning, a file can't be had, the network doesn't fit the pads or memory is
-//! wanting.
+//! The inputs of each time are made by a fixed rule, one input at a time, or sixty-four with `lanes`;
+//! with `ones` they are the values from 0 on. The program prints how many bits of all outputs were 1,
+//! modulo 2^64. Of a miter it prints how many clauses it has. It ends with status 1 where the words
+//! have no meaning, a file can't be had, the network doesn't fit the pads or memory is wanting.
 #![tactic(auto)]
 
 mod inputs;
 mod runs;
 
-use crate::runs::{ones_of_config, ones_of_net};
+use crate::runs::{ones_of_config, ones_of_lanes, ones_of_net, ones_of_values};
 use blif_read::read_blif;
+use eval_lanes::LaneWires;
 use extract::extract;
 use fabric::{Config, Geometry, Wires};
 use fabric_bytes::read_config;
@@ -77,17 +80,36 @@ fn net_ones<S: Store>(alloc: Global, store: &mut S, spec: &str, times: u64) -> O
     Some(ones_of_net(&net, times, &mut scratch))
 }
 
-/// The ones of the configuration of these bytes.
-fn fabric_ones<S: Store>(
-    alloc: Global,
-    store: &mut S,
-    g: Geometry,
-    config: &str,
-    times: u64,
-) -> Option<u64> {
-    let config = load_config(alloc, store, g, config)?;
+/// The ones of a configuration, for so many times one input.
+fn fabric_ones(alloc: Global, config: &Config, times: u32) -> Option<u64> {
     let mut wires = Wires::new(alloc, config.geometry()).ok()?;
-    Some(ones_of_config(&config, times, &mut wires))
+    Some(ones_of_config(config, u64::from(times), &mut wires))
+}
+
+/// The ones of a configuration, for so many times sixty-four inputs.
+fn lane_ones(alloc: Global, config: &Config, times: u32) -> Option<u64> {
+    let g = config.geometry();
+    let mut w = LaneWires::new(alloc, g).ok()?;
+    let mut words = vec![in alloc; 0; g.i() as usize].ok()?;
+    let mut out = vec![in alloc; 0; g.o() as usize].ok()?;
+    let ones = ones_of_lanes(config, u64::from(times), &mut words, &mut out, &mut w);
+    Some(ones)
+}
+
+/// The ones of a configuration, for so many values from 0 on.
+fn value_ones(alloc: Global, config: &Config, count: u32) -> Option<u64> {
+    let mut w = LaneWires::new(alloc, config.geometry()).ok()?;
+    Some(ones_of_values(config, count, &mut w))
+}
+
+/// The ones of a configuration, for the inputs that the word names.
+fn config_ones(alloc: Global, word: &str, config: &Config, times: u32) -> Option<u64> {
+    match word {
+        "fabric" => fabric_ones(alloc, config, times),
+        "lanes" => lane_ones(alloc, config, times),
+        "ones" => value_ones(alloc, config, times),
+        _ => None,
+    }
 }
 
 /// The clauses of the miter of the specification and the configuration.
@@ -116,16 +138,16 @@ fn answer_of_kind<S: Store>(
     words: &[String],
 ) -> Option<u64> {
     match words {
-        [word, c, r, t, i, o, config, times] if word.as_str() == "fabric" => {
-            let sides = [c.as_str(), r.as_str(), t.as_str(), i.as_str(), o.as_str()];
-            let g = geometry(is_six, sides)?;
-            let times = number(times.as_str())?;
-            fabric_ones(alloc, store, g, config.as_str(), u64::from(times))
-        }
         [word, spec, c, r, t, i, o, config] if word.as_str() == "miter" => {
             let sides = [c.as_str(), r.as_str(), t.as_str(), i.as_str(), o.as_str()];
             let g = geometry(is_six, sides)?;
             miter_clauses(alloc, store, spec.as_str(), g, config.as_str())
+        }
+        [word, c, r, t, i, o, config, times] => {
+            let sides = [c.as_str(), r.as_str(), t.as_str(), i.as_str(), o.as_str()];
+            let g = geometry(is_six, sides)?;
+            let config = load_config(alloc, store, g, config.as_str())?;
+            config_ones(alloc, word.as_str(), &config, number(times.as_str())?)
         }
         _ => None,
     }

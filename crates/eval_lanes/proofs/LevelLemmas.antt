@@ -1,18 +1,16 @@
 -- Levels of multiplexers.
-use Rattle.std.proofs.Common.{◌≡◌, ℕ, zero, suc, ◌+◌, ◌-◌, ◌*◌, ◌^◌, ◌<◌, ◌≤◌, List, [], ◌∷◌, ◌++◌, length, get_or, map, take, ap, sym, ◌∙◌, arith}
+use Rattle.std.proofs.Common.{◌≡◌, ℕ, zero, suc, ◌+◌, ◌-◌, ◌*◌, ◌/◌, ◌%◌, ◌^◌, ◌<◌, ◌≤◌, List, [], ◌∷◌, ◌++◌, length, get_or, take, refl, ap, sym, ◌∙◌, arith}
 use Rattle.std.specs.Int.{bit_at}
-use Rattle.std.proofs.lemmas.List.{length-map, length-take-le, map_more}
-use Rattle.std.proofs.lemmas.Nat.{pow-add}
+use Rattle.std.proofs.lemmas.List.{length-take-le, take_more, take_all}
+use Rattle.std.proofs.lemmas.Nat.{pow-add, shr-shr, one_shl}
 use Rattle.std.proofs.Math.Nat.{pow-le-pow_right}
-use Rattle.std.proofs.lemmas.Nat.Bits.{bit_at-lt}
+use Rattle.std.proofs.lemmas.Nat.Bits.{bit_at-lt, bit_at-zero, bit_at_ones}
 use Rattle.pch_base.specs.BitLists.{word_of}
-use Rattle.lanes_defs.specs.Lanes.{lane}
-use Rattle.lanes_defs.specs.declared.TheConstants.{LANES}
-use Rattle.eval_lanes.specs.Levels.{chosen, pins_number, IsLevel}
-use Rattle.eval_lanes.proofs.LaneLemmas.{lane_at}
+use Rattle.eval_lanes.specs.Levels.{chosen, mux, IsLevel}
+use Rattle.eval_lanes.proofs.LaneLemmas.{mux_lane}
 
 -- twice a power
-pub pow-more : (n : ℕ) → 2 ^ (n + 1) ≡ 2 * 2 ^ n
+pow-more : (n : ℕ) → 2 ^ (n + 1) ≡ 2 * 2 ^ n
 pow-more n = omega (arith, pow-add 2 n 1)
 
 -- one more bit, the greatest one
@@ -24,17 +22,12 @@ word_of-push (x ∷ xs) b =
     omega (arith, rest, ap (λ m. m * b) more)
 
 -- one more pin
-pub pins_number-more : (tracks pins : List ℕ) (j m : ℕ) → m < length pins
-    → pins_number tracks (take (m + 1) pins) j
-    ≡ pins_number tracks (take m pins) j + 2 ^ m * bit_at (get_or tracks (get_or pins m 0) 0) j
-pins_number-more tracks pins j m lt =
-    let f : ℕ → ℕ = λ word. get_or (lane tracks j) word 0 in
-    let front : List ℕ = map f (take m pins) in
-    let long : length front ≡ m = length-map (take m pins) f ∙ length-take-le m pins (omega arith) in
-    ap word_of (map_more f pins m 0 lt)
-    ∙ word_of-push front (f (get_or pins m 0))
-    ∙ ap (λ n. word_of front + 2 ^ n * f (get_or pins m 0)) long
-    ∙ ap (λ b. word_of front + 2 ^ m * b) (lane_at tracks j (get_or pins m 0))
+word_of-more : (bits : List ℕ) (m : ℕ) → m < length bits
+    → word_of (take (m + 1) bits) ≡ word_of (take m bits) + 2 ^ m * get_or bits m 0
+word_of-more bits m lt =
+    ap word_of (take_more bits m 0 lt)
+    ∙ word_of-push (take m bits) (get_or bits m 0)
+    ∙ ap (λ n. word_of (take m bits) + 2 ^ n * get_or bits m 0) (length-take-le m bits (omega arith))
 
 -- the bit that a pin chooses among two that stand side by side
 choose_half : (table i p low pin odd even : ℕ) → pin < 2
@@ -47,29 +40,89 @@ choose_half table i p low (suc zero) odd even lt o e =
 choose_half table i p low (suc (suc pin)) odd even lt o e = absurd (omega arith)
 
 -- one more level
-pub next_is_level : (table count half m word : ℕ) (tracks pins level next : List ℕ) → m < length pins → 2 * half ≤ count
-    → word ≡ get_or tracks (get_or pins m 0) 0
-    → IsLevel table tracks pins m count level
-    → ((i j : ℕ) → i < half → j < LANES → bit_at (get_or next i 0) j
-    ≡ chosen (bit_at word j) (bit_at (get_or level (2 * i + 1) 0) j) (bit_at (get_or level (2 * i) 0) j))
-    → IsLevel table tracks pins (m + 1) half next
-next_is_level table count half m word tracks pins level next m_lt wide is h made = λ i j i_lt j_lt.
-    let low : ℕ = pins_number tracks (take m pins) j in
-    let pin : ℕ = bit_at (get_or tracks (get_or pins m 0) 0) j in
-    made i j i_lt j_lt
-    ∙ ap (λ w. chosen (bit_at w j) (bit_at (get_or level (2 * i + 1) 0) j) (bit_at (get_or level (2 * i) 0) j)) is
-    ∙ choose_half table i (2 ^ m) low pin _ _ (bit_at-lt _ j) (h (2 * i + 1) j (omega arith) j_lt) (h (2 * i) j (omega arith) j_lt)
-    ∙ ap (λ q. bit_at table (i * q + (low + 2 ^ m * pin))) (sym (pow-more m))
-    ∙ ap (λ n. bit_at table (i * 2 ^ (m + 1) + n)) (sym (pins_number-more tracks pins j m m_lt))
+pub next_is_level : (table count half m : ℕ) (pin_bits : List ℕ) (before after : ℕ → ℕ) → m < length pin_bits → 2 * half ≤ count
+    → get_or pin_bits m 0 < 2 → IsLevel table pin_bits m count before
+    → ((k : ℕ) → k < half → after k ≡ chosen (get_or pin_bits m 0) (before (2 * k + 1)) (before (2 * k)))
+    → IsLevel table pin_bits (m + 1) half after
+next_is_level table count half m pin_bits before after m_lt wide bit h made = λ k k_lt.
+    let low : ℕ = word_of (take m pin_bits) in
+    let pin : ℕ = get_or pin_bits m 0 in
+    made k k_lt
+    ∙ choose_half table k (2 ^ m) low pin _ _ bit (h (2 * k + 1) (omega arith)) (h (2 * k) (omega arith))
+    ∙ ap (λ q. bit_at table (k * q + (low + 2 ^ m * pin))) (sym (pow-more m))
+    ∙ ap (λ n. bit_at table (k * 2 ^ (m + 1) + n)) (sym (word_of-more pin_bits m m_lt))
+
+-- the level of pin 0
+pub first_is_level : (table count : ℕ) (pin_bits : List ℕ) (bit : ℕ → ℕ) → 0 < length pin_bits
+    → ((k : ℕ) → k < count → bit k ≡ bit_at table (2 * k + get_or pin_bits 0 0)) → IsLevel table pin_bits 1 count bit
+first_is_level table count pin_bits bit some h = λ k lt.
+    let own : word_of (take 1 pin_bits) ≡ get_or pin_bits 0 0 = word_of-more pin_bits 0 some ∙ (let e : 0 + 1 * get_or pin_bits 0 0 ≡ get_or pin_bits 0 0 = omega arith in e) in
+    h k lt ∙ ap (bit_at table) (let e : 2 * k + get_or pin_bits 0 0 ≡ k * 2 ^ 1 + word_of (take 1 pin_bits) = omega (arith, own) in e)
+
+-- the last level has the bit of the table that the pins choose
+pub last_is_bit : (table count m : ℕ) (pin_bits : List ℕ) (bit : ℕ → ℕ) → m ≡ length pin_bits → 0 < count
+    → IsLevel table pin_bits m count bit → bit 0 ≡ bit_at table (word_of pin_bits)
+last_is_bit table count m pin_bits bit all some h =
+    h 0 some ∙ ap (bit_at table)
+    ((let e : 0 * 2 ^ m + word_of (take m pin_bits) ≡ word_of (take m pin_bits) = omega arith in e)
+    ∙ ap word_of (take_all m pin_bits (omega arith)))
+
+negated : (b on off pin : ℕ) → pin ≡ b → b < 2 → on ≡ 1 → off ≡ 0 → chosen pin off on ≡ bit_at 1 b
+negated zero on off pin is lt one none = ap (λ p. chosen p off on) is ∙ one
+negated (suc zero) on off pin is lt one none = ap (λ p. chosen p off on) is ∙ none
+negated (suc (suc b)) on off pin is lt one none = absurd (omega arith)
+
+second_bit : (b : ℕ) → b < 2 → b ≡ bit_at 2 b
+second_bit zero lt = refl
+second_bit (suc zero) lt = refl
+second_bit (suc (suc b)) lt = absurd (omega arith)
+
+both_bits : (b : ℕ) → b < 2 → 1 ≡ bit_at 3 b
+both_bits zero lt = refl
+both_bits (suc zero) lt = refl
+both_bits (suc (suc b)) lt = absurd (omega arith)
+
+choice_case : (word : ℕ → ℕ) (pin j : ℕ) → word 0 ≡ 0 → word 1 ≡ mux 0 18446744073709551615 pin → word 2 ≡ pin
+    → word 3 ≡ 18446744073709551615 → (b : ℕ) → bit_at pin j ≡ b → b < 2 → bit_at 18446744073709551615 j ≡ 1
+    → (q : ℕ) → q < 4 → bit_at (word q) j ≡ bit_at q b
+choice_case word pin j w0 w1 w2 w3 b is b_lt on zero lt = ap (λ w. bit_at w j) w0 ∙ bit_at-zero j ∙ sym (bit_at-zero b)
+choice_case word pin j w0 w1 w2 w3 b is b_lt on (suc zero) lt =
+    ap (λ w. bit_at w j) w1 ∙ mux_lane 18446744073709551615 0 pin j ∙ negated b (bit_at 18446744073709551615 j) (bit_at 0 j) (bit_at pin j) is b_lt on (bit_at-zero j)
+choice_case word pin j w0 w1 w2 w3 b is b_lt on (suc (suc zero)) lt = ap (λ w. bit_at w j) w2 ∙ is ∙ second_bit b b_lt
+choice_case word pin j w0 w1 w2 w3 b is b_lt on (suc (suc (suc zero))) lt = ap (λ w. bit_at w j) w3 ∙ on ∙ both_bits b b_lt
+choice_case word pin j w0 w1 w2 w3 b is b_lt on (suc (suc (suc (suc q)))) lt = absurd (omega arith)
+
+-- what a pin makes of the four pairs of bits
+pub choice_bit : (word : ℕ → ℕ) (pin j : ℕ) → j < 64 → word 0 ≡ 0 → word 1 ≡ mux 0 18446744073709551615 pin → word 2 ≡ pin
+    → word 3 ≡ 18446744073709551615 → (q : ℕ) → q < 4 → bit_at (word q) j ≡ bit_at q (bit_at pin j)
+choice_bit word pin j j_lt w0 w1 w2 w3 q lt =
+    choice_case word pin j w0 w1 w2 w3 (bit_at pin j) refl (bit_at-lt pin j) (bit_at_ones 64 j j_lt) q lt
+
+-- one of a pair of bits of the table
+pub pair_bit : (table k b : ℕ) → b < 2 → bit_at (table / 2 ^ (2 * k) % 4) b ≡ bit_at table (2 * k + b)
+pair_bit table k zero lt =
+    (let e : bit_at (table / 2 ^ (2 * k) % 4) 0 ≡ table / 2 ^ (2 * k) % 2 = omega arith in e)
+    ∙ ap (λ m. bit_at table m) (let e : 2 * k ≡ 2 * k + zero = omega arith in e)
+pair_bit table k (suc zero) lt =
+    (let e : bit_at (table / 2 ^ (2 * k) % 4) 1 ≡ table / 2 ^ (2 * k) / 2 ^ 1 % 2 = omega arith in e)
+    ∙ ap (λ m. m % 2) (shr-shr table (2 * k) 1)
+pair_bit table k (suc (suc b)) lt = absurd (omega arith)
 
 -- half as many words
 pub half_pow : (pins m : ℕ) → m < pins → 2 ^ (pins - m) ≡ 2 * 2 ^ (pins - (m + 1))
 half_pow pins m lt = ap (λ n. 2 ^ n) (let e : pins - m ≡ pins - (m + 1) + 1 = omega arith in e) ∙ pow-more (pins - (m + 1))
 
--- and no more than half of the lanes
-pub half_pow-le : (pins m : ℕ) → m < pins → pins ≤ 6 → 2 ^ (pins - (m + 1)) ≤ 32
-half_pow-le pins m lt few = pow-le-pow_right {n = 2} (omega arith) {i = pins - (m + 1)} {j = 5} (omega arith)
+-- half of the bits of a table, as the code computes it
+pub first_half : (pins : ℕ) → 1 ≤ pins → pins ≤ 6 → 1 * 2 ^ pins % 2 ^ 64 / 2 ≡ 2 ^ (pins - 1)
+first_half pins some few =
+    let all : 1 * 2 ^ pins % 2 ^ 64 ≡ 2 ^ pins = one_shl pins 64 (omega arith) in
+    let twice : 2 ^ pins ≡ 2 * 2 ^ (pins - 1) = ap (λ n. 2 ^ n) (let e : pins ≡ pins - 1 + 1 = omega arith in e) ∙ pow-more (pins - 1) in
+    omega (arith, all, twice)
 
--- no more words than lanes
-pub pow-le : (pins : ℕ) → pins ≤ 6 → 2 ^ pins ≤ 64
-pow-le pins few = pow-le-pow_right {n = 2} (omega arith) {i = pins} {j = 6} few
+-- it is no more than the largest table has
+pub first_half-le : (pins : ℕ) → pins ≤ 6 → 2 ^ (pins - 1) ≤ 32
+first_half-le pins few = pow-le-pow_right {n = 2} (omega arith) {i = pins - 1} {j = 5} (omega arith)
+
+-- a quarter as many
+pub quarter_pow-le : (pins m : ℕ) → pins ≤ 6 → 1 ≤ m → 2 ^ (pins - (m + 1)) ≤ 16
+quarter_pow-le pins m few some = pow-le-pow_right {n = 2} (omega arith) {i = pins - (m + 1)} {j = 4} (omega arith)

@@ -1,2 +1,5 @@
-pub mod Evaluation
+pub mod Blocks
+pub mod Places
 pub mod Levels
+pub mod Values
+pub mod Counts

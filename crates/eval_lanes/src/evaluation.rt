@@ -1,120 +1,131 @@
 //! Evaluation in all lanes at once. The columns are passed from the first to the last; what is kept
-//! between them are the words of one channel, and the words of all cells so far.
+//! are the places of what the tracks of one channel carry, and the words at these places.
+//!
+//! Cells are computed by a pass of their own for each kind, which is written once and gets the kind
+//! as a fixed value: so the loops over the pins of a cell have fixed ends.
 
-ghost use Rattle.std.specs.Prelude.{◌≡◌, ℕ, ◌+◌, ◌-◌, ◌*◌, ◌<◌, ◌≤◌, List, length, map, slice_index};
+ghost use Rattle.std.specs.Prelude.{◌≡◌, ℕ, ◌+◌, ◌*◌, ◌<◌, ◌≤◌, List, length, map, slice_index};
 ghost use Rattle.std.specs.Int.{bit_at};
 ghost use Rattle.fabric_defs.specs.Geometries.{cell_count};
 ghost use Rattle.fabric_defs.specs.Configurations.{IsConfig, pin_words, table};
-ghost use Rattle.fabric_defs.specs.Wirings.{FabOut, pad_bit, switched_bit, table_bit};
+ghost use Rattle.fabric_defs.specs.Wirings.{FabOut, pad_bit, table_bit};
 ghost use Rattle.lanes_defs.specs.Lanes.{lane};
 ghost use Rattle.lanes_defs.specs.declared.TheConstants.{LANES};
-ghost use Rattle.eval_lanes.specs.Evaluation.{HaveChannel, HaveCells};
+ghost use Rattle.eval_lanes.specs.Blocks.{words_of};
+ghost use Rattle.eval_lanes.specs.Places.{NamesChannel, HaveValues, GivesColumn, place_count, seen_bit};
 
-use crate::cells::table_word;
+use crate::blocks::CellBlock;
+use crate::places::{name_first_channel, switch_tracks};
 use crate::wires::LaneWires;
 use crate::words::Words;
-use fabric::Config;
+use fabric::{CellKind, Config};
 
-/// The word that a track of channel 0 takes.
-fn pad_word(inputs: &[u64], word: u16) -> u64
-    ensures { result ≡ pad_bit inputs.now word }
-{
-    let pad = usize::from(word);
-    if 0 < pad && pad <= inputs.len() {
-        inputs[pad - 1]
-    } else {
-        0
-    }
-}
-
-/// Gives the tracks the words of channel 0.
-fn put_first_channel(config: &Config, inputs: &[u64], tracks: &mut Words)
-    requires { length tracks.old ≡ config.now.geometry.tracks + 1 }
-    ensures places { length tracks.new ≡ length tracks.old }
-    ensures channel { HaveChannel config.now inputs.now 0 tracks.new }
-{
-    let words = config.first_channel();
-    tracks.set(0, 0);
-    for t in 0..words.len() {
-        tracks.set(t + 1, pad_word(inputs, words[t]));
-    }
-}
-
-/// The word of the cell at a column and a row, where the tracks have the words of the channel before
-/// the column.
-fn cell_word(config: &Config, column: u32, row: u32, tracks: &Words) -> u64
+/// The block of the cell of this kind at a column and a row.
+#[inline(always)]
+fn cell_word<W: CellBlock>(
+    config: &Config,
+    kind: CellKind,
+    column: u32,
+    row: u32,
+    tracks: &Words<u32>,
+    values: &Words<W>,
+) -> W
+    requires kind { kind ≡ config.now.geometry.kind }
     requires column { column < config.now.geometry.columns }
     requires row { row < config.now.geometry.rows }
-    requires places { length tracks.now ≡ config.now.geometry.tracks + 1 }
-    ensures { (j : ℕ) → j < LANES
-        → let pins = map (slice_index (lane tracks.now j)) (pin_words config.now column row) in
-        bit_at result j ≡ table_bit (table config.now column row) pins }
+    requires tracks { NamesChannel config.now column tracks.now }
+    requires values { place_count config.now.geometry ≡ length values.now }
+    ensures { (i j : ℕ) → i < W.width → j < LANES
+        → let bits = lane (words_of W.word values.now i) j in
+        bit_at (W.word result i) j ≡ table_bit (table config.now column row)
+        (map (seen_bit bits tracks.now) (pin_words config.now column row)) }
 {
-    table_word(config.table(column, row), config.pins(column, row), tracks)
+    let pins = config.pins(column, row);
+    let count = kind.pins() as usize;
+    W::of_cell(config.table(column, row), &pins[..count], tracks, values)
 }
 
-/// Gives the cells of a column their words.
-fn put_cells(config: &Config, column: u32, tracks: &Words, cells: &mut Words)
+/// Gives the cells of a column of this kind their words.
+#[inline(always)]
+fn put_cells_of<W: CellBlock>(
+    config: &Config,
+    kind: CellKind,
+    column: u32,
+    tracks: &Words<u32>,
+    values: &mut Words<W>,
+)
+    requires kind { kind ≡ config.now.geometry.kind }
     requires column { column < config.now.geometry.columns }
-    requires tracks { length tracks.now ≡ config.now.geometry.tracks + 1 }
-    requires cells { length cells.old ≡ cell_count config.now.geometry }
-    ensures places { length cells.new ≡ length cells.old }
-    ensures cells { (inputs : List ℕ) → HaveChannel config.now inputs column tracks.now
-        → HaveCells config.now inputs (column * config.now.geometry.rows) cells.old
-        → HaveCells config.now inputs ((column + 1) * config.now.geometry.rows) cells.new }
+    requires tracks { NamesChannel config.now column tracks.now }
+    requires values { place_count config.now.geometry ≡ length values.old }
+    ensures places { length values.new ≡ length values.old }
+    ensures cells { (i : ℕ) (inputs : ℕ → List ℕ) → i < W.width
+        → HaveValues config.now inputs (column * config.now.geometry.rows)
+        (words_of W.word values.old i)
+        → HaveValues config.now inputs ((column + 1) * config.now.geometry.rows)
+        (words_of W.word values.new i) }
 {
     let g = config.geometry();
-    let first = column * g.r();
+    let first = g.i() + 1 + column * g.r();
     for row in 0..g.r() {
-        cells.set(
-            (first + row) as usize,
-            cell_word(config, column, row, tracks),
-        );
+        let word = cell_word(config, kind, column, row, tracks, values);
+        values.set((first + row) as usize, word);
     }
 }
 
-/// The word that a track takes after a column whose first cell has the number `first`.
-fn switched_word(word: u16, before: u64, first: u32, cells: &Words) -> u64
-    requires { first + (word - 2) < length cells.now }
-    ensures { result ≡ switched_bit before (λ row. slice_index cells.now (first + row)) word }
-{
-    // A cell is read whatever the word is, so that no branch has to guess the word.
-    let cell = cells.get(first as usize + usize::from(word.saturating_sub(2)));
-    let kept = if word == 1 { before } else { 0 };
-    if word >= 2 { cell } else { kept }
-}
-
-/// Gives the tracks the words of the channel after a column in place of the one before it.
-fn switch_tracks(config: &Config, column: u32, cells: &Words, tracks: &mut Words)
+/// Gives the cells of a column their words, by the pass of their kind.
+fn put_cells<W: CellBlock>(config: &Config, column: u32, tracks: &Words<u32>, values: &mut Words<W>)
     requires column { column < config.now.geometry.columns }
-    requires tracks { length tracks.old ≡ config.now.geometry.tracks + 1 }
-    requires cells { length cells.now ≡ cell_count config.now.geometry }
-    ensures places { length tracks.new ≡ length tracks.old }
-    ensures channel { (inputs : List ℕ) → HaveChannel config.now inputs column tracks.old
-        → HaveCells config.now inputs ((column + 1) * config.now.geometry.rows) cells.now
-        → HaveChannel config.now inputs (column + 1) tracks.new }
+    requires tracks { NamesChannel config.now column tracks.now }
+    requires values { place_count config.now.geometry ≡ length values.old }
+    ensures places { length values.new ≡ length values.old }
+    ensures cells { (i : ℕ) (inputs : ℕ → List ℕ) → i < W.width
+        → HaveValues config.now inputs (column * config.now.geometry.rows)
+        (words_of W.word values.old i)
+        → HaveValues config.now inputs ((column + 1) * config.now.geometry.rows)
+        (words_of W.word values.new i) }
 {
-    let first = column * config.geometry().r();
-    let words = config.channel_after(column);
-    for t in 0..words.len() {
-        let word = switched_word(words[t], tracks.get(t + 1), first, cells);
-        tracks.set(t + 1, word);
+    match config.geometry().cell_kind() {
+        CellKind::FourInputs => {
+            put_cells_of(config, CellKind::FourInputs, column, tracks, values);
+        }
+        CellKind::SixInputs => {
+            put_cells_of(config, CellKind::SixInputs, column, tracks, values);
+        }
     }
 }
 
-/// Gives the tracks the words of the last channel.
-pub(crate) fn sweep(config: &Config, inputs: &[u64], tracks: &mut Words, cells: &mut Words)
+/// Gives all cells their words, where the input pads have theirs, and the tracks the places of what
+/// the last channel carries.
+pub(crate) fn sweep<W: CellBlock>(config: &Config, tracks: &mut Words<u32>, values: &mut Words<W>)
     requires tracks { length tracks.old ≡ config.now.geometry.tracks + 1 }
-    requires cells { length cells.old ≡ cell_count config.now.geometry }
+    requires values { place_count config.now.geometry ≡ length values.old }
     ensures known { IsConfig config.now }
-    ensures tracks { length tracks.new ≡ length tracks.old }
-    ensures places { length cells.new ≡ length cells.old }
-    ensures channel { HaveChannel config.now inputs.now config.now.geometry.columns tracks.new }
+    ensures places { length values.new ≡ length values.old }
+    ensures channel { NamesChannel config.now config.now.geometry.columns tracks.new }
+    ensures cells { (i : ℕ) (inputs : ℕ → List ℕ) → i < W.width
+        → HaveValues config.now inputs 0 (words_of W.word values.old i)
+        → HaveValues config.now inputs (cell_count config.now.geometry)
+        (words_of W.word values.new i) }
 {
-    put_first_channel(config, inputs, tracks);
+    name_first_channel(config, tracks);
     for column in 0..config.geometry().c() {
-        put_cells(config, column, tracks, cells);
-        switch_tracks(config, column, cells, tracks);
+        put_cells(config, column, tracks, values);
+        switch_tracks(config, column, tracks);
+    }
+}
+
+/// Gives off and the input pads their words: 0, and those of `inputs` with 0 past them.
+fn put_inputs(inputs: &[u64], pads: u32, values: &mut Words<u64>)
+    requires inputs { length inputs.now ≤ pads }
+    requires values { pads < length values.old }
+    ensures places { length values.new ≡ length values.old }
+    ensures words { (p : ℕ) → p ≤ pads → slice_index values.new p ≡ pad_bit inputs.now p }
+{
+    values.set(0, 0);
+    for pad in 0..pads as usize {
+        let word = if pad < inputs.len() { inputs[pad] } else { 0 };
+        values.set(pad + 1, word);
     }
 }
 
@@ -127,9 +138,11 @@ pub fn eval64(k: &Config, inputs: &[u64], out: &mut [u64], w: &mut LaneWires)
     ensures lanes { (j : ℕ) → j < LANES → FabOut k.now (lane inputs.now j) (lane out.new j) }
     ensures wires { w.new ≡ w.old }
 {
-    sweep(k, inputs, &mut w.tracks, &mut w.cells);
+    put_inputs(inputs, k.geometry().i(), &mut w.words);
+    sweep(k, &mut w.tracks, &mut w.words);
     let pads = k.output_pads();
     for pad in 0..pads.len() {
-        out[pad] = w.tracks.get(usize::from(pads[pad]));
+        let place = w.tracks.get(usize::from(pads[pad]));
+        out[pad] = w.words.get(place as usize);
     }
 }

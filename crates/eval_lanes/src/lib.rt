@@ -6,10 +6,12 @@
 //! this, which is taken once. The definitions stand in the crate `lanes_defs`.
 #![tactic(auto)]
 
+mod blocks;
 mod cells;
 mod counting;
 mod evaluation;
 mod ones;
+mod places;
 #[cfg(test)]
 mod tests;
 mod values;

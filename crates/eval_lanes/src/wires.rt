@@ -7,34 +7,34 @@ use fabric::Geometry;
 use pch_base::NoMemory;
 use std::alloc::Global;
 use std::marker::Model;
+use std::simd::prelude::*;
 
 /// Places for the words of a fabric, which `eval64` and `count_ones` fill. Contracts see the
 /// geometry of the fabric alone.
-#[derive(Debug, Drop)]
+#[derive(Drop)]
 pub struct LaneWires {
     /// The fabric that has as many tracks, cells and input pads.
     geometry: Geometry,
-    /// Place 0 stands for off, and place t + 1 has track t of one channel.
-    pub(crate) tracks: Words,
-    /// The cells by their numbers.
-    pub(crate) cells: Words,
-    /// The input pads.
-    pub(crate) inputs: Words,
+    /// The place of what each track of one channel carries: track t at t + 1, and off at 0.
+    pub(crate) tracks: Words<u32>,
+    /// The words of `eval64`: off, the input pads, and the cells by their numbers.
+    pub(crate) words: Words<u64>,
+    /// The blocks of `count_ones`, in the same places.
+    pub(crate) blocks: Words<u64x8>,
 }
 
 impl Model for LaneWires {
-    ghost use Rattle.std.specs.Prelude.{◌≡◌, ◌+◌, ◌≤◌, length};
-    ghost use Rattle.fabric_defs.specs.Geometries.{GeometryValue, cell_count};
-    ghost use Rattle.fabric_defs.specs.declared.limits.TheConstants.{MAX_SIDE};
+    ghost use Rattle.std.specs.Prelude.{◌≡◌, ◌+◌, length};
+    ghost use Rattle.fabric_defs.specs.Geometries.{GeometryValue};
+    ghost use Rattle.eval_lanes.specs.Places.{place_count};
 
     ghost Value = { GeometryValue };
 
     ghost view = { λ w. w.geometry };
 
     ghost invariant = { λ w. (length w.tracks ≡ w.geometry.tracks + 1)
-        × (length w.cells ≡ cell_count w.geometry)
-        × (length w.inputs ≡ w.geometry.input_pads)
-        × (length w.inputs ≤ MAX_SIDE) };
+        × (place_count w.geometry ≡ length w.words)
+        × (place_count w.geometry ≡ length w.blocks) };
 }
 
 impl LaneWires {
@@ -42,11 +42,12 @@ impl LaneWires {
     pub fn new(alloc: Global, g: Geometry) -> Result<LaneWires, NoMemory>
         ensures { IfOk result (λ w. w ≡ g) }
     {
+        let places = 1 + g.i() as usize + g.cells() as usize;
         Ok(LaneWires {
             geometry: g,
-            tracks: Words::new(alloc, g.t() as usize + 1)?,
-            cells: Words::new(alloc, g.cells() as usize)?,
-            inputs: Words::new(alloc, g.i() as usize)?,
+            tracks: Words::new(alloc, 0, g.t() as usize + 1)?,
+            words: Words::new(alloc, 0, places)?,
+            blocks: Words::new(alloc, u64x8::splat(0), places)?,
         })
     }
 }

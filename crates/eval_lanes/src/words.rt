@@ -1,55 +1,49 @@
-//! Words that are written and read by their places: an evaluation does nothing else.
+//! Values that are written and read by their places: an evaluation does nothing else.
 
-ghost use Rattle.std.specs.Prelude.{◌≡◌, ◌<◌, ◌≤◌, length, take, slice_index, slice_set, IfOk};
+ghost use Rattle.std.specs.Prelude.{◌≡◌, ◌<◌, length, slice_get, slice_set, Some, IfOk};
 
 use std::alloc::{AllocError, Global};
 use std::marker::Model;
 
-/// Words by their places. Contracts see the list of these.
-#[derive(Debug, Drop)]
-pub(crate) struct Words {
-    words: Vec<u64>,
+/// Values by their places. Contracts see the list of these.
+#[derive(Drop)]
+pub(crate) struct Words<W> {
+    words: Vec<W>,
 }
 
-impl Model for Words {
-    ghost use Rattle.std.specs.Prelude.{ℕ, List};
+impl<W> Model for Words<W> {
+    ghost use Rattle.std.specs.Prelude.{List};
 
-    ghost Value = { List ℕ };
+    ghost Value = { List W };
 
     ghost view = { λ a. a.words.items };
 }
 
-impl Words {
-    /// So many words.
-    pub(crate) fn new(alloc: Global, count: usize) -> Result<Words, AllocError>
+impl<W: Copy> Words<W> {
+    /// So many times this value.
+    pub(crate) fn new(alloc: Global, value: W, count: usize) -> Result<Words<W>, AllocError>
         ensures { IfOk result (λ a. length a ≡ count) }
     {
         Ok(Words {
-            words: vec![in alloc; 0; count]?,
+            words: vec![in alloc; value; count]?,
         })
     }
 
-    /// The word at a place.
-    pub(crate) fn get(&self, place: usize) -> u64
+    /// The value at a place.
+    #[inline(always)]
+    pub(crate) fn get(&self, place: usize) -> W
         requires { place < length self.now }
-        ensures { slice_index self.now place ≡ result }
+        ensures { slice_get self.now place ≡ Some result }
     {
         self.words[place]
     }
 
-    /// Makes `word` the word at a place.
-    pub(crate) fn set(&mut self, place: usize, word: u64)
+    /// Makes `value` the value at a place.
+    #[inline(always)]
+    pub(crate) fn set(&mut self, place: usize, value: W)
         requires { place < length self.old }
-        ensures { self.new ≡ slice_set self.old place word }
+        ensures { self.new ≡ slice_set self.old place value }
     {
-        self.words[place] = word;
-    }
-
-    /// The first words, so many.
-    pub(crate) fn first(&self, count: usize) -> &[u64]
-        requires { count ≤ length self.now }
-        ensures { result.now ≡ take count self.now }
-    {
-        &self.words[..count]
+        self.words[place] = value;
     }
 }

@@ -1,8 +1,10 @@
 //! From a net to its mapped cells.
 
-ghost use Rattle.std.specs.Prelude.{◌≡◌, ◌↔◌, ℕ, List, length, map, IfOk};
+ghost use Rattle.std.specs.Prelude.{◌≡◌, ◌↔◌, ◌<◌, ◌≤◌, ℕ, List, length, map, IfOk};
 ghost use Rattle.fabric_defs.specs.Bits.{IsBits};
+ghost use Rattle.fabric_defs.specs.Geometries.{GeometryValue, pin_count};
 ghost use Rattle.net_defs.specs.Evaluation.{SpecOut, output_signals};
+ghost use Rattle.map_defs.specs.Mapped.{AreMapped, mapped_cell};
 ghost use Rattle.map_defs.specs.Outputs.{LutOut};
 ghost use Rattle.map_defs.specs.Reference.{RefMap};
 ghost use Rattle.lut_map.specs.Parts.{source_by};
@@ -29,11 +31,15 @@ fn output_sources(alloc: Global, net: &Net, ends: &[u32]) -> Result<Vec<Source>,
     Ok(sources)
 }
 
-/// The reference mapping of a net. Its outputs are those of the net, whatever the bits of the inputs.
+/// The reference mapping of a net. Its outputs are those of the net, whatever the bits of the inputs,
+/// and its cells have no more pins than those of any fabric.
 pub fn map(alloc: Global, net: &Net) -> Result<Luts, NoMemory>
     ensures reference { IfOk result (RefMap net.now) }
     ensures outputs { IfOk result (λ l. (x y : List ℕ) → IsBits (length net.now.inputs) x
         → (LutOut l x y ↔ SpecOut net.now x y)) }
+    ensures mapped { IfOk result AreMapped }
+    ensures narrow { IfOk result (λ l. (g : GeometryValue) (k : ℕ) → k < length l.cells
+        → length (mapped_cell l k).pins ≤ pin_count g) }
 {
     let parts = parts_of(alloc, net)?;
     let cells = placed_cells(alloc, net, &parts)?;

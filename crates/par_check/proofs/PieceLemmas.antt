@@ -27,6 +27,11 @@ module _ (f : List Lits) (t : List Entry) (w : ℕ) where
   fault_joined from mid to n v le far right h =
       (h.0, (let low = h.1 in omega arith), (let high = h.2 in omega arith), right_joined from mid h.0 right h.3, h.4)
 
+  -- behind places that are right, the first fault of the others is the first of all
+  pub piece_joined : (from mid to : ℕ) (found : Option Verdict) → from ≤ mid → RightBetween f t w from mid → IsFirstFault f t w mid to found → IsFirstFault f t w from to found
+  piece_joined from mid to None le right h = right_joined from mid to right h
+  piece_joined from mid to (Some v) le right h = fault_joined from mid to to v le (omega arith) right h
+
   module _ (n pieces : ℕ) where
     -- where each worker's answer is that of its piece, the answers are those of the pieces, in order
     pub pieces_zip : (R : ℕ → Result (Option Verdict) NoMemory → Type 0)

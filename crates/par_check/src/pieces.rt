@@ -1,13 +1,14 @@
-ghost use Rattle.std.specs.Prelude.{◌≡◌, ℕ, ◌+◌, ◌*◌, ◌/◌, ◌<◌, ◌≤◌, length, IfOk};
+ghost use Rattle.std.specs.Prelude.{◌≡◌, ℕ, ◌+◌, ◌*◌, ◌/◌, ◌<◌, ◌≤◌, length, Some, IfOk, IfSome};
 ghost use Rattle.clause_defs.specs.Clauses.{Unsat};
-ghost use Rattle.clause_defs.specs.Verdicts.{VerdictOf};
+ghost use Rattle.clause_defs.specs.Verdicts.{ClauseFault, VerdictOf};
 ghost use Rattle.clause_defs.specs.declared.verdict.TheConstants.{MAX_COMPUTED};
 ghost use Rattle.clause_defs.specs.declared.verdict.Verdict.{Verdict};
 ghost use Rattle.chain_check.specs.Known.{IsKnownBefore};
-ghost use Rattle.chain_check.specs.Rooms.{KnowsBefore, SignsAreRight, StopsAt, IsFirstFault};
+ghost use Rattle.chain_check.specs.Rooms.{KnowsBefore, SignsAreRight, StopsAt, RightBetween, IsFirstFault};
 ghost use Rattle.par_check.specs.Pieces.{piece_begin, IsPiece};
 
-use chain_check::{Room, Stop, check_trace};
+use crate::progress::compute_signs;
+use chain_check::{Room, Stop, check_trace, original_fault};
 use clause_defs::{MAX_COMPUTED, Verdict};
 use clause_laws::refutation_is_sound;
 use pch_base::NoMemory;
@@ -32,11 +33,12 @@ pub fn check_pieces(
     ensures verdict { IfOk result (λ v. VerdictOf f.now.clauses t.now MAX_COMPUTED v) }
     ensures sound { IfOk result (λ v. v ≡ Verdict.Refutes → Unsat f.now.variables f.now.clauses) }
 {
+    let pieces = pieces.min(t.len()).max(1);
     if pieces == 1 {
         return check_trace(alloc, f, t);
     }
     let mut room = Room::open(alloc, t, MAX_COMPUTED)?;
-    let stop = room.compute_all(t);
+    let stop = compute_signs(rt, alloc, t, &mut room, pieces)?;
     let found = first_of_pieces(rt, alloc, f, t, &room, stop.place, pieces)?;
     refutation_is_sound();
     Ok(verdict(f, t, &room, stop, found))
@@ -104,15 +106,54 @@ fn check_piece(
     requires right { SignsAreRight t.now room.now.limit to }
     ensures { IfOk result (IsFirstFault f.now.clauses t.now room.now.limit from to) }
 {
-    if from == to {
+    let stop = originals(f, t, from, to);
+    if let Some(fault) = stop.fault {
+        return Ok(Some(fault));
+    }
+    if stop.place == to {
         return Ok(None);
     }
     let mut marks = room.more_marks(alloc)?;
-    Ok(room.first_fault(f, t, from, to, &mut marks))
+    Ok(room.first_fault(f, t, stop.place, to, &mut marks))
+}
+
+/// Checks the originals at the places from `from` to before `to`, up to the first faulty one or the
+/// first derived clause whose literals are stated. Takes no memory.
+fn originals(f: &ClauseSet, t: &Trace, from: u32, to: u32) -> Stop
+    requires order { from ≤ to }
+    requires within { to ≤ length t.now }
+    ensures order { from ≤ result.place }
+    ensures within { result.place ≤ to }
+    ensures right { (w : ℕ) → SignsAreRight t.now w to
+        → RightBetween f.now.clauses t.now w from result.place }
+    ensures fault { IfSome result.fault (λ v. (result.place < to)
+        × ((w : ℕ) → ClauseFault f.now.clauses t.now w result.place (Some v))) }
+{
+    for k in from..to {
+        if t.is_compact(k) {
+            continue;
+        }
+        if !t.antecedents(k).is_empty() {
+            return Stop {
+                place: k,
+                fault: None,
+            };
+        }
+        if let Some(fault) = original_fault(f, t, k) {
+            return Stop {
+                place: k,
+                fault: Some(fault),
+            };
+        }
+    }
+    Stop {
+        place: to,
+        fault: None,
+    }
 }
 
 /// Where piece `p` of so many begins, over the places before `end`.
-fn piece_begin(end: u32, pieces: u32, p: u32) -> u32
+pub(crate) fn piece_begin(end: u32, pieces: u32, p: u32) -> u32
     requires some { 1 ≤ pieces }
     requires within { p ≤ pieces }
     ensures begin { result ≡ piece_begin end pieces p }

@@ -2,7 +2,7 @@
 use Rattle.std.proofs.Common.{◌≡◌, ℕ, ◌<◌, ◌≤◌, List, [], ◌∷◌, length, get_or, None, String, string_bytes, refl, arith}
 use Rattle.std.specs.declared.alloc.Global.{Global}
 use Rattle.fabric_defs.specs.declared.kind.CellKind.{CellKind}
-use Rattle.pch_lines.specs.Words.{words_in, verify_form, verify_with, fabric_form, fabric_in, count_in}
+use Rattle.pch_lines.specs.Words.{words_in, verify_form, verify_with, place_form, fabric_form, fabric_in, count_in}
 use Rattle.pch_lines.specs.declared.limits.TheConstants.{MAX_WORKERS}
 
 -- fewer than six words behind two files verify nothing
@@ -39,6 +39,25 @@ six_words kind spec bundle (a ∷ b ∷ d ∷ e ∷ []) c r t i o n least below 
 six_words kind spec bundle (a ∷ b ∷ d ∷ e ∷ f ∷ []) c r t i o n least below e0 e1 e2 e3 e4 e5 = absurd (omega (arith, least))
 six_words kind spec bundle (a ∷ b ∷ d ∷ e ∷ f ∷ g ∷ []) c r t i o n least below e0 e1 e2 e3 e4 e5 = rw (e0, e1, e2, e3, e4, e5) refl
 six_words kind spec bundle (a ∷ b ∷ d ∷ e ∷ f ∷ g ∷ h ∷ rest) c r t i o n least below e0 e1 e2 e3 e4 e5 = absurd (omega (arith, below))
+
+-- fewer than five words behind a file and a number place nothing
+pub few_place : (kind : CellKind) (design c : List ℕ) (ws : List (String Global)) → length ws < 5 → place_form kind design c (words_in ws) ≡ None
+few_place kind design c [] less = refl
+few_place kind design c (r ∷ []) less = refl
+few_place kind design c (r ∷ t ∷ []) less = refl
+few_place kind design c (r ∷ t ∷ i ∷ []) less = refl
+few_place kind design c (r ∷ t ∷ i ∷ o ∷ []) less = refl
+few_place kind design c (r ∷ t ∷ i ∷ o ∷ out ∷ rest) less = absurd (omega (arith, less))
+
+-- nor do more than five
+pub many_place : (kind : CellKind) (design c : List ℕ) (ws : List (String Global)) → 6 ≤ length ws → place_form kind design c (words_in ws) ≡ None
+many_place kind design c [] more = absurd (omega (arith, more))
+many_place kind design c (r ∷ []) more = absurd (omega (arith, more))
+many_place kind design c (r ∷ t ∷ []) more = absurd (omega (arith, more))
+many_place kind design c (r ∷ t ∷ i ∷ []) more = absurd (omega (arith, more))
+many_place kind design c (r ∷ t ∷ i ∷ o ∷ []) more = absurd (omega (arith, more))
+many_place kind design c (r ∷ t ∷ i ∷ o ∷ out ∷ []) more = absurd (omega (arith, more))
+many_place kind design c (r ∷ t ∷ i ∷ o ∷ out ∷ word ∷ rest) more = refl
 
 -- fewer than three words name no fabric
 pub no_fabric : (kind : CellKind) (ws : List (String Global)) → length ws < 3 → fabric_form kind (words_in ws) ≡ None

@@ -3,4 +3,5 @@ pub mod FaultLines
 pub mod Files
 pub mod Lines
 pub mod RefusalLines
+pub mod RouteLines
 pub mod Words

@@ -23,6 +23,8 @@ pub data Form : Type 0 where
   cnf : List ℕ → List ℕ → Form
   -- compact BUNDLE OUT
   compact : List ℕ → List ℕ → Form
+  -- place DESIGN C R T I O OUT
+  place : List ℕ → GeometryValue → List ℕ → Form
 
 -- ---- numbers and fabrics
 
@@ -65,10 +67,26 @@ verify_form kind spec bundle (c ∷ r ∷ t ∷ i ∷ o ∷ workers ∷ []) =
     verify_with spec bundle (fabric_in kind c r t i o) (count_in MAX_WORKERS workers)
 verify_form kind spec bundle (c ∷ r ∷ t ∷ i ∷ o ∷ workers ∷ more ∷ rest) = None
 
+-- `place` with these names, where the fabric is there
+abbrev pub place_with : List ℕ → Option GeometryValue → List ℕ → Option Form
+place_with design None out = None
+place_with design (Some g) out = Some (place design g out)
+
+-- `place` with a file, the first number of its fabric and the words behind them
+abbrev pub place_form : CellKind → List ℕ → List ℕ → List (List ℕ) → Option Form
+place_form kind design c [] = None
+place_form kind design c (r ∷ []) = None
+place_form kind design c (r ∷ t ∷ []) = None
+place_form kind design c (r ∷ t ∷ i ∷ []) = None
+place_form kind design c (r ∷ t ∷ i ∷ o ∷ []) = None
+place_form kind design c (r ∷ t ∷ i ∷ o ∷ out ∷ []) = place_with design (fabric_in kind c r t i o) out
+place_form kind design c (r ∷ t ∷ i ∷ o ∷ out ∷ more ∷ rest) = None
+
 -- the commands that name a fabric, whose cells have this kind: a word, two words more, and the rest
 abbrev pub form_on : CellKind → (word first second : List ℕ) → List (List ℕ) → Option Form
 form_on kind word first second more =
-    if bytes_eq word (codes "verify") then verify_form kind first second more else None
+    if bytes_eq word (codes "verify") then verify_form kind first second more
+    else (if bytes_eq word (codes "place") then place_form kind first second more else None)
 
 -- the same for all words
 abbrev pub fabric_form : CellKind → List (List ℕ) → Option Form

@@ -35,6 +35,12 @@ pub enum Command<'a> {
         bundle: &'a str,
         out: &'a str,
     },
+    /// `place DESIGN C R T I O OUT`, where `six` may stand in front
+    Place {
+        design: &'a str,
+        geometry: Geometry,
+        out: &'a str,
+    },
 }
 
 /// A file that is to be loaded.
@@ -104,6 +110,7 @@ impl<'a> Command<'a> {
                 Ok(vec![in alloc; NamedFile::design(spec), NamedFile::bundle(bundle)]?)
             }
             Command::Compact { bundle, .. } => Ok(vec![in alloc; NamedFile::bundle(bundle)]?),
+            Command::Place { design, .. } => Ok(vec![in alloc; NamedFile::design(design)]?),
         }
     }
 
@@ -112,7 +119,7 @@ impl<'a> Command<'a> {
         ensures { option_map (λ name. name.now) result ≡ out_of (form_seen self.now) }
     {
         match *self {
-            Command::Compact { out, .. } => Some(out),
+            Command::Compact { out, .. } | Command::Place { out, .. } => Some(out),
             Command::Check { .. } | Command::Verify { .. } | Command::Cnf { .. } => None,
         }
     }

@@ -13,6 +13,7 @@ mod formula_lines;
 mod limits;
 mod line;
 mod refusal_lines;
+mod route_lines;
 mod words;
 
 pub use bundle_lines::{bundle_line, config_line, miter_error_line};
@@ -22,4 +23,5 @@ pub use formula_lines::{cnf_line, trace_line};
 pub use limits::{MAX_BUNDLE_BYTES, MAX_WORKERS};
 pub use line::Line;
 pub use refusal_lines::{refusal_line, verdict_line};
+pub use route_lines::unroutable_line;
 pub use words::command_of;

@@ -1,7 +1,7 @@
 //! From words to the command that they have the form of.
 
 ghost use Rattle.std.specs.Prelude.{◌≡◌, ◌≤◌, None, Some, MatchOption, IfSome};
-ghost use Rattle.pch_lines.specs.Words.{words_in, form_of, plain_form, file_form, fabric_form, form_on, verify_form, count_in, fabric_in, verify_with};
+ghost use Rattle.pch_lines.specs.Words.{words_in, form_of, plain_form, file_form, fabric_form, form_on, verify_form, count_in, fabric_in, verify_with, place_form, place_with};
 ghost use Rattle.pch_lines.specs.Commands.{form_seen, HasWorkers};
 
 use crate::command::Command;
@@ -86,6 +86,8 @@ fn command_on<'a>(
 {
     if word == "verify" {
         verify_command(kind, first, second, more)
+    } else if word == "place" {
+        place_command(kind, first, second, more)
     } else {
         None
     }
@@ -135,6 +137,45 @@ fn verify_of<'a>(
         bundle,
         geometry: geometry?,
         workers: workers?,
+    })
+}
+
+/// `place` with a file, the first number of its fabric and the words behind them.
+fn place_command<'a>(
+    kind: CellKind,
+    design: &'a str,
+    c: &str,
+    words: &'a [String],
+) -> Option<Command<'a>>
+    ensures command { MatchOption result
+        (place_form kind design.now c.now (words_in words.now) ≡ None)
+        (λ found. place_form kind design.now c.now (words_in words.now) ≡ Some (form_seen found)) }
+    ensures workers { IfSome result HasWorkers }
+{
+    let [r, t, i, o, out] = words else {
+        return None;
+    };
+    let geometry = fabric_of(
+        kind,
+        c,
+        r.as_str(),
+        t.as_str(),
+        i.as_str(),
+        o.as_str(),
+    );
+    place_of(design, geometry, out.as_str())
+}
+
+/// `place` with these names, where the fabric is there.
+fn place_of<'a>(design: &'a str, geometry: Option<Geometry>, out: &'a str) -> Option<Command<'a>>
+    ensures command { MatchOption result (place_with design.now geometry out.now ≡ None)
+        (λ c. place_with design.now geometry out.now ≡ Some (form_seen c)) }
+    ensures workers { IfSome result HasWorkers }
+{
+    Some(Command::Place {
+        design,
+        geometry: geometry?,
+        out,
     })
 }
 

@@ -15,8 +15,8 @@ use Rattle.verify_defs.specs.Compacting.{compacted_bundle}
 use Rattle.verify_laws.proofs.Compacted.{compacted-fits, accepted-compacted}
 use Rattle.pch_lines.specs.Lines.{and_word}
 use Rattle.pch_lines.specs.FaultLines.{bundle_line, trace_line}
-use Rattle.pch_shell.specs.Outcomes.{Outcome, done_with, bad_input}
-use Rattle.pch_shell.specs.Compact.{CompactDue, written_line}
+use Rattle.pch_shell.specs.Outcomes.{Outcome, done_with, bad_input, written_line}
+use Rattle.pch_shell.specs.Compact.{CompactDue}
 
 -- the bundle is compacted
 pub compacted_due : {N : Type 0} (r : Result Outcome N) (name bytes : List ℕ) (bundle : BundleValue) (steps : List Entry)

@@ -2,5 +2,6 @@ pub mod CheckLemmas
 pub mod CnfLemmas
 pub mod CompactLemmas
 pub mod LoadLemmas
+pub mod PlaceLemmas
 pub mod RunLemmas
 pub mod VerifyLemmas

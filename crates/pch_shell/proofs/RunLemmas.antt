@@ -1,10 +1,11 @@
 -- What follows from how a run ends.
 use Rattle.std.proofs.Common.{◌≡◌, ◌≢◌, ◌⊎◌, inl, inr, ℕ, ◌<◌, ◌≤◌, List, [], ◌∷◌, length, Option, Some, None, IsSomeAnd, Result, Ok, Err, IfOk, OnErr, refl, sym, ap, subst, ◌∙◌, arith}
+use Rattle.blif_defs.specs.declared.mark.TheConstants.{MAX_BYTES}
 use Rattle.fabric_defs.specs.Geometries.{GeometryValue}
 use Rattle.pch_io.specs.declared.store.LoadFail.{LoadFail}
 use Rattle.pch_io.specs.declared.store.LoadFail.TheVariants as fails
-use Rattle.pch_io.specs.Outside.{Files, Rose, Loads, LoadCause, Saves, Spoils}
-use Rattle.pch_lines.specs.Words.{Form, form_of, check, verify, cnf, compact}
+use Rattle.pch_io.specs.Outside.{Files, Rose, Loads, LoadCause, Saves, Spoils, Appends}
+use Rattle.pch_lines.specs.Words.{Form, form_of, check, verify, cnf, compact, place}
 use Rattle.pch_lines.specs.Files.{FileValue, files_of, out_of}
 use Rattle.pch_shell.specs.Outcomes.{Outcome, no_words, not_stored}
 use Rattle.pch_shell.specs.Loading.{AreLoaded, IsNotLoaded}
@@ -12,46 +13,57 @@ use Rattle.pch_shell.specs.Check.{Refuted, CheckDue}
 use Rattle.pch_shell.specs.Verify.{IsAccepted, VerifyDue}
 use Rattle.pch_shell.specs.Cnf.{CnfDue}
 use Rattle.pch_shell.specs.Compact.{CompactDue}
+use Rattle.pch_shell.specs.Place.{PlaceDue}
 use Rattle.pch_shell.specs.Due.{OfOne, OfTwo, FilesDue, Holds}
-use Rattle.pch_shell.specs.Runs.{StoreState, SinkState, OnlyOut, AreSaved, NotSaved, AfterSave, Works, StopsAtLoad, Tells, WordsTell, out_named, Put, Worked, Leaves, WantsMemory, Ends, HoldsOut, Shows, StoreCause, IsDecided, Completes, Runs}
+use Rattle.pch_shell.specs.Runs.{StoreState, SinkState, OnlyOut, AreSaved, NotSaved, AfterSave, Works, StopsAtLoad, Tells, WordsTell, out_named, Put, Worked, Leaves, WantsMemory, Ends, NamesFirstOver, HoldsOut, Shows, StoreCause, IsDecided, Completes, Runs}
 use Rattle.pch_shell.specs.declared.status.Status.{Status}
-use Rattle.pch_shell.specs.declared.status.Status.TheVariants.{Done, NotAccepted, Words, Store, Sink, Memory, BadInput}
+use Rattle.pch_shell.specs.declared.status.Status.TheVariants.{Done, NotAccepted, Words, Store, Sink, Memory, Unroutable, BadInput}
 
 -- ---- the statuses of what a command comes to
 
 -- the outcome says that something is done, refused or badly formed
+abbrev IsOfFiles : Outcome → Type 0
+IsOfFiles o = (o.status ≡ Done) ⊎ ((o.status ≡ NotAccepted) ⊎ (o.status ≡ BadInput))
+
+-- or else that a design doesn't fit a fabric
 abbrev IsOfWork : Outcome → Type 0
-IsOfWork o = (o.status ≡ Done) ⊎ ((o.status ≡ NotAccepted) ⊎ (o.status ≡ BadInput))
+IsOfWork o = (o.status ≡ Unroutable) ⊎ IsOfFiles o
 
 -- equal outcomes have one status
 status_of : (o p : Outcome) → o ≡ p → o.status ≡ p.status
 status_of o p e = ap (λ (x : Outcome). x.status) e
 
--- what `check` comes to is of its work
-check_work : (cn tn formula trace : List ℕ) (o : Outcome) → CheckDue cn tn formula trace o → IsOfWork o
-check_work cn tn formula trace o (inl h) = inl (status_of o _ h.1)
-check_work cn tn formula trace o (inr (inl h)) = inr (inl (status_of o _ h.2))
-check_work cn tn formula trace o (inr (inr (inl h))) = inr (inr (status_of o _ h.2))
-check_work cn tn formula trace o (inr (inr (inr h))) = inr (inr (status_of o _ h.2))
+-- what `check` comes to is of its files
+check_files : (cn tn formula trace : List ℕ) (o : Outcome) → CheckDue cn tn formula trace o → IsOfFiles o
+check_files cn tn formula trace o (inl h) = inl (status_of o _ h.1)
+check_files cn tn formula trace o (inr (inl h)) = inr (inl (status_of o _ h.2))
+check_files cn tn formula trace o (inr (inr (inl h))) = inr (inr (status_of o _ h.2))
+check_files cn tn formula trace o (inr (inr (inr h))) = inr (inr (status_of o _ h.2))
 
--- what `verify` comes to is of its work
-verify_work : (sn : List ℕ) (g : GeometryValue) (spec bundle : List ℕ) (o : Outcome) → VerifyDue sn g spec bundle o → IsOfWork o
-verify_work sn g spec bundle o (inl h) = inl (status_of o _ h.1)
-verify_work sn g spec bundle o (inr (inl h)) = inr (inl (status_of o _ h.2))
-verify_work sn g spec bundle o (inr (inr h)) = inr (inr (status_of o _ h.2))
+-- what `verify` comes to is of its files
+verify_files : (sn : List ℕ) (g : GeometryValue) (spec bundle : List ℕ) (o : Outcome) → VerifyDue sn g spec bundle o → IsOfFiles o
+verify_files sn g spec bundle o (inl h) = inl (status_of o _ h.1)
+verify_files sn g spec bundle o (inr (inl h)) = inr (inl (status_of o _ h.2))
+verify_files sn g spec bundle o (inr (inr h)) = inr (inr (status_of o _ h.2))
 
--- what `cnf` comes to is of its work
-cnf_work : (sn bn spec bundle : List ℕ) (o : Outcome) → CnfDue sn bn spec bundle o → IsOfWork o
-cnf_work sn bn spec bundle o (inl h) = inl (status_of o _ h.2)
-cnf_work sn bn spec bundle o (inr (inl h)) = inr (inr (status_of o _ h.2))
-cnf_work sn bn spec bundle o (inr (inr h)) = inr (inr (status_of o _ h.2))
+-- what `cnf` comes to is of its files
+cnf_files : (sn bn spec bundle : List ℕ) (o : Outcome) → CnfDue sn bn spec bundle o → IsOfFiles o
+cnf_files sn bn spec bundle o (inl h) = inl (status_of o _ h.2)
+cnf_files sn bn spec bundle o (inr (inl h)) = inr (inr (status_of o _ h.2))
+cnf_files sn bn spec bundle o (inr (inr h)) = inr (inr (status_of o _ h.2))
 
--- what `compact` comes to is of its work
-compact_work : (name bytes : List ℕ) (o : Outcome) → CompactDue name bytes o → IsOfWork o
-compact_work name bytes o (inl h) = inl (status_of o _ h.2)
-compact_work name bytes o (inr (inl h)) = inr (inr (status_of o _ h.2))
-compact_work name bytes o (inr (inr (inl h))) = inr (inr (status_of o _ h.2))
-compact_work name bytes o (inr (inr (inr h))) = inr (inr (status_of o _ h.2))
+-- what `compact` comes to is of its files
+compact_files : (name bytes : List ℕ) (o : Outcome) → CompactDue name bytes o → IsOfFiles o
+compact_files name bytes o (inl h) = inl (status_of o _ h.2)
+compact_files name bytes o (inr (inl h)) = inr (inr (status_of o _ h.2))
+compact_files name bytes o (inr (inr (inl h))) = inr (inr (status_of o _ h.2))
+compact_files name bytes o (inr (inr (inr h))) = inr (inr (status_of o _ h.2))
+
+-- what `place` comes to is of its work
+place_work : (name : List ℕ) (g : GeometryValue) (design : List ℕ) (o : Outcome) → PlaceDue name g design o → IsOfWork o
+place_work name g design o (inl h) = inr (inl (status_of o _ h.2))
+place_work name g design o (inr (inl h)) = inl (status_of o _ h.2)
+place_work name g design o (inr (inr h)) = inr (inr (inr (status_of o _ h.2)))
 
 -- what is due for one file is due for that file
 of_one : (files : List (List ℕ)) (P : List ℕ → Type 0) (Q : Type 0) → OfOne files P → ((a : List ℕ) → P a → Q) → Q
@@ -69,16 +81,23 @@ of_two (a ∷ b ∷ c ∷ rest) P Q h k = absurd h
 
 -- what a command comes to for the bytes of its files is of its work
 due_work : (form : Form) (files : List (List ℕ)) (o : Outcome) → FilesDue form files o → IsOfWork o
-due_work (check cn tn) files o h = of_two files _ _ h (λ a b due. check_work cn tn a b o due)
-due_work (verify sn bn g workers) files o h = of_two files _ _ h (λ a b due. verify_work sn g a b o due)
-due_work (cnf sn bn) files o h = of_two files _ _ h (λ a b due. cnf_work sn bn a b o due)
-due_work (compact bn out) files o h = of_one files _ _ h (λ a due. compact_work bn a o due)
+due_work (check cn tn) files o h = of_two files _ _ h (λ a b due. inr (check_files cn tn a b o due))
+due_work (verify sn bn g workers) files o h = of_two files _ _ h (λ a b due. inr (verify_files sn g a b o due))
+due_work (cnf sn bn) files o h = of_two files _ _ h (λ a b due. inr (cnf_files sn bn a b o due))
+due_work (compact bn out) files o h = of_one files _ _ h (λ a due. inr (compact_files bn a o due))
+due_work (place dn g out) files o h = of_one files _ _ h (λ a due. place_work dn g a o due)
+
+-- an outcome of the files has no other status
+files_not : (o : Outcome) (s : Status) → IsOfFiles o → s ≢ Done → s ≢ NotAccepted → s ≢ BadInput → o.status ≡ s → ⊥
+files_not o s (inl e) a b c is = a (sym is ∙ e)
+files_not o s (inr (inl e)) a b c is = b (sym is ∙ e)
+files_not o s (inr (inr e)) a b c is = c (sym is ∙ e)
 
 -- an outcome of the work has none of the statuses that the outside gives
-work_not : (o : Outcome) (s : Status) → IsOfWork o → s ≢ Done → s ≢ NotAccepted → s ≢ BadInput → o.status ≡ s → ⊥
-work_not o s (inl e) a b c is = a (sym is ∙ e)
-work_not o s (inr (inl e)) a b c is = b (sym is ∙ e)
-work_not o s (inr (inr e)) a b c is = c (sym is ∙ e)
+work_not : (o : Outcome) (s : Status) → IsOfWork o → s ≢ Unroutable → s ≢ Done → s ≢ NotAccepted → s ≢ BadInput
+    → o.status ≡ s → ⊥
+work_not o s (inl e) u a b c is = u (sym is ∙ e)
+work_not o s (inr e) u a b c is = files_not o s e a b c is
 
 -- ---- what status 0 shows
 
@@ -138,6 +157,14 @@ compact_shows name bytes out o old new done (inr (inl h)) saved = absurd (not_do
 compact_shows name bytes out o old new done (inr (inr (inl h))) saved = absurd (not_done o BadInput (status_of o _ h.2) (λ e. cc) done)
 compact_shows name bytes out o old new done (inr (inr (inr h))) saved = absurd (not_done o BadInput (status_of o _ h.2) (λ e. cc) done)
 
+-- where `place` is done, the file has a configuration that places the design
+place_shows : (name : List ℕ) (g : GeometryValue) (design out : List ℕ) (o : Outcome) (old new : StoreState) → o.status ≡ Done
+    → PlaceDue name g design o → AreSaved (Some out) o.saved old new → ShowsSaved (place name g out) (design ∷ []) new.files
+place_shows name g design out o old new done (inl (bytes, is, due)) saved =
+    (bytes, saved_by o bytes _ out old new due saved, is)
+place_shows name g design out o old new done (inr (inl h)) saved = absurd (not_done o Unroutable (status_of o _ h.2) (λ e. cc) done)
+place_shows name g design out o old new done (inr (inr h)) saved = absurd (not_done o BadInput (status_of o _ h.2) (λ e. cc) done)
+
 -- where a command is done, what status 0 shows holds of what is saved
 done_shows : (form : Form) (files : List (List ℕ)) (o : Outcome) (old new : StoreState) → o.status ≡ Done → FilesDue form files o
     → AreSaved (out_of form) o.saved old new → ShowsSaved form files new.files
@@ -157,6 +184,56 @@ done_shows (cnf sn bn) files o old new done h saved = (
 done_shows (compact bn out) [] o old new done h saved = absurd h
 done_shows (compact bn out) (bytes ∷ []) o old new done h saved = compact_shows bn bytes out o old new done h saved
 done_shows (compact bn out) (bytes ∷ b ∷ rest) o old new done h saved = absurd h
+done_shows (place dn g out) [] o old new done h saved = absurd h
+done_shows (place dn g out) (design ∷ []) o old new done h saved = place_shows dn g design out o old new done h saved
+done_shows (place dn g out) (design ∷ b ∷ rest) o old new done h saved = absurd h
+
+-- ---- what status 7 shows
+
+-- what is of the files isn't unroutable
+files_fit : (o : Outcome) → IsOfFiles o → o.status ≡ Unroutable → ⊥
+files_fit o h is = files_not o Unroutable h (λ e. cc) (λ e. cc) (λ e. cc) is
+
+-- where `place` finds too little of a resource, the text names it and nothing is saved
+place_over : (name : List ℕ) (g : GeometryValue) (design out : List ℕ) (o : Outcome) (old new : StoreState) (held now : Option (List ℕ))
+    → o.status ≡ Unroutable → PlaceDue name g design o → Loads old.files name MAX_BYTES design → AreSaved (Some out) o.saved old new
+    → Appends held now o.text → NamesFirstOver (Some (place name g out)) old.files new.files held now
+place_over name g design out o old new held now is (inl h) loaded saved put =
+    absurd (let e : Done ≡ Unroutable = sym (status_of o _ h.2) ∙ is in cc)
+place_over name g design out o old new held now is (inr (inl (over, first, due))) loaded saved put =
+    let kept : AreSaved (Some out) None old new =
+    subst (λ (x : Option (List ℕ)). AreSaved (Some out) x old new) (ap (λ (x : Outcome). x.saved) due) saved in
+    record {
+      design_name = name;
+      fabric = g;
+      out = out;
+      is_place = refl;
+      design = design;
+      loaded = loaded;
+      over = over;
+      first = first;
+      told = subst (λ (t : List ℕ). Appends held now t) (ap (λ (x : Outcome). x.text) due) put;
+      unchanged = ap (λ (s : StoreState). s.files) kept;
+    }
+place_over name g design out o old new held now is (inr (inr h)) loaded saved put =
+    absurd (let e : BadInput ≡ Unroutable = sym (status_of o _ h.2) ∙ is in cc)
+
+-- no other command finds too little of a resource
+due_over : (form : Form) (files : List (List ℕ)) (o : Outcome) (old new : StoreState) (held now : Option (List ℕ))
+    → o.status ≡ Unroutable → FilesDue form files o → AreLoaded old.files (files_of form) files → AreSaved (out_of form) o.saved old new
+    → Appends held now o.text → NamesFirstOver (Some form) old.files new.files held now
+due_over (check cn tn) files o old new held now is h loaded saved put =
+    absurd (files_fit o (of_two files _ _ h (λ a b due. check_files cn tn a b o due)) is)
+due_over (verify sn bn g workers) files o old new held now is h loaded saved put =
+    absurd (files_fit o (of_two files _ _ h (λ a b due. verify_files sn g a b o due)) is)
+due_over (cnf sn bn) files o old new held now is h loaded saved put =
+    absurd (files_fit o (of_two files _ _ h (λ a b due. cnf_files sn bn a b o due)) is)
+due_over (compact bn out) files o old new held now is h loaded saved put =
+    absurd (files_fit o (of_one files _ _ h (λ a due. compact_files bn a o due)) is)
+due_over (place dn g out) [] o old new held now is h loaded saved put = absurd h
+due_over (place dn g out) (design ∷ []) o old new held now is h loaded saved put =
+    place_over dn g design out o old new held now is h loaded.0 saved put
+due_over (place dn g out) (design ∷ b ∷ rest) o old new held now is h loaded saved put = absurd h
 
 -- ---- files
 
@@ -209,7 +286,7 @@ told_not_sink : (form : Option Form) (old new : StoreState) (told : Outcome) →
 told_not_sink None old new told h is = let e : Words ≡ Sink = sym (status_of told _ h.0) ∙ is in cc
 told_not_sink (Some form) old new told (inl w) is =
     elim w.saved [
-      | inl s ↦ work_not w.outcome Sink (due_work form w.files w.outcome w.due) (λ e. cc) (λ e. cc) (λ e. cc)
+      | inl s ↦ work_not w.outcome Sink (due_work form w.files w.outcome w.due) (λ e. cc) (λ e. cc) (λ e. cc) (λ e. cc)
           (sym (status_of told w.outcome s.1) ∙ is)
       | inr s ↦ absurd (let e : Store ≡ Sink = sym (status_of told _ s.3) ∙ is in cc)
     ]
@@ -288,13 +365,37 @@ told_shows (Some form) old new told (inl w) done =
     ]
 told_shows (Some form) old new told (inr s) done = absurd (let e : Store ≡ Done = sym (status_of told _ s.is_told) ∙ done in cc)
 
+-- where status 7 is told and written, the text names the first resource that is over
+told_over : (form : Option Form) (old new : StoreState) (held now : Option (List ℕ)) (told : Outcome) → WordsTell form old new told
+    → told.status ≡ Unroutable → Appends held now told.text → NamesFirstOver form old.files new.files held now
+told_over None old new held now told h is put = absurd (let e : Words ≡ Unroutable = sym (status_of told _ h.0) ∙ is in cc)
+told_over (Some form) old new held now told (inl w) is put =
+    elim w.saved [
+      | inl s ↦ due_over form w.files w.outcome old new held now (sym (status_of told w.outcome s.1) ∙ is) w.due w.loaded s.0
+          (subst (λ (t : List ℕ). Appends held now t) (ap (λ (x : Outcome). x.text) s.1) put)
+      | inr s ↦ absurd (let e : Store ≡ Unroutable = sym (status_of told _ s.3) ∙ is in cc)
+    ]
+told_over (Some form) old new held now told (inr s) is put =
+    absurd (let e : Store ≡ Unroutable = sym (status_of told _ s.is_told) ∙ is in cc)
+
+-- so it is where a run ends with status 7
+ends_over : (form : Option Form) (old new : StoreState) (before after : SinkState) (status : Status) → status ≡ Unroutable
+    → Ends form old new before after status → NamesFirstOver form old.files new.files before.held after.held
+ends_over form old new before after status is (inl w) = absurd (let e : Memory ≡ Unroutable = sym w.memory ∙ is in cc)
+ends_over form old new before after status is (inr (told, tells, inl put)) =
+    told_over form old new before.held after.held told tells (sym put.0 ∙ is) put.1
+ends_over form old new before after status is (inr (told, tells, inr (inl put))) =
+    absurd (let e : Sink ≡ Unroutable = sym put.0 ∙ is in cc)
+ends_over form old new before after status is (inr (told, tells, inr (inr put))) =
+    absurd (let e : Memory ≡ Unroutable = sym put.0 ∙ is in cc)
+
 -- the status of words comes with no form alone
 told_words : (form : Option Form) (old new : StoreState) (told : Outcome) → WordsTell form old new told → told.status ≡ Words
     → form ≡ None
 told_words None old new told h is = refl
 told_words (Some form) old new told (inl w) is =
     elim w.saved [
-      | inl s ↦ absurd (work_not w.outcome Words (due_work form w.files w.outcome w.due) (λ e. cc) (λ e. cc) (λ e. cc)
+      | inl s ↦ absurd (work_not w.outcome Words (due_work form w.files w.outcome w.due) (λ e. cc) (λ e. cc) (λ e. cc) (λ e. cc)
           (sym (status_of told w.outcome s.1) ∙ is))
       | inr s ↦ absurd (let e : Store ≡ Words = sym (status_of told _ s.3) ∙ is in cc)
     ]
@@ -306,7 +407,7 @@ told_store : (form : Option Form) (old new : StoreState) (told : Outcome) → Wo
 told_store None old new told h is = let e : Words ≡ Store = sym (status_of told _ h.0) ∙ is in cc
 told_store (Some form) old new told (inl w) is =
     elim w.saved [
-      | inl s ↦ absurd (work_not w.outcome Store (due_work form w.files w.outcome w.due) (λ e. cc) (λ e. cc) (λ e. cc)
+      | inl s ↦ absurd (work_not w.outcome Store (due_work form w.files w.outcome w.due) (λ e. cc) (λ e. cc) (λ e. cc) (λ e. cc)
           (sym (status_of told w.outcome s.1) ∙ is))
       | inr s ↦ inr (s.1, s.2)
     ]
@@ -375,6 +476,7 @@ runs_of words old new before after status ends = record {
   shows = λ is. let at = told_of (form_of words) old new before after status (λ e. let k : Done ≡ Sink = sym is ∙ e in cc)
       (λ e. let k : Done ≡ Memory = sym is ∙ e in cc) ends in
       told_shows (form_of words) old new at.0 at.1 (at.2 ∙ is);
+  over = λ is. ends_over (form_of words) old new before after status is ends;
   words_cause = λ is. let at = told_of (form_of words) old new before after status (λ e. let k : Words ≡ Sink = sym is ∙ e in cc)
       (λ e. let k : Words ≡ Memory = sym is ∙ e in cc) ends in
       told_words (form_of words) old new at.0 at.1 (at.2 ∙ is);

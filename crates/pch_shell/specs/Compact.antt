@@ -13,9 +13,9 @@ use Rattle.bundle_defs.specs.declared.faults.BundleError.{BundleError}
 use Rattle.bundle_defs.specs.declared.faults.BundleError.TheVariants.{Version}
 use Rattle.verify_defs.specs.Acceptance.{AcceptsWith}
 use Rattle.verify_defs.specs.Compacting.{compacted_bundle}
-use Rattle.pch_lines.specs.Lines.{and_word, and_number, ended}
+use Rattle.pch_lines.specs.Lines.{and_word}
 use Rattle.pch_lines.specs.FaultLines.{bundle_line, trace_line}
-use Rattle.pch_shell.specs.Outcomes.{Outcome, done_with, bad_input}
+use Rattle.pch_shell.specs.Outcomes.{Outcome, done_with, bad_input, written_line}
 
 -- the bytes are a bundle of version 1 with this trace
 pub record HasStatedTrace (bytes : List ℕ) (bundle : BundleValue) (steps : List Entry) : Type 0 where
@@ -47,10 +47,6 @@ pub record TraceIsFaultyIn (bytes : List ℕ) (fault : TraceError) : Type 0 wher
   pub text : BundleText bytes bundle
   pub version : bundle.version ≡ 1
   pub faulty : TraceTextFault bundle.trace 1 fault
-
--- `written` with the number of bytes
-abbrev pub written_line : ℕ → List ℕ
-written_line count = ended (and_number (codes "written") count)
 
 -- what `compact` of the bytes of a bundle comes to
 abbrev pub CompactDue : (name bytes : List ℕ) → Outcome → Type 0

@@ -1,12 +1,13 @@
 -- What a command comes to for the bytes of its files.
 use Rattle.std.specs.Prelude.{ℕ, List, [], ◌∷◌}
 use Rattle.clause_defs.specs.Formulas.{Formula}
-use Rattle.pch_lines.specs.Words.{Form, check, verify, cnf, compact}
+use Rattle.pch_lines.specs.Words.{Form, check, verify, cnf, compact, place}
 use Rattle.pch_shell.specs.Outcomes.{Outcome}
 use Rattle.pch_shell.specs.Check.{Refuted, CheckDue}
 use Rattle.pch_shell.specs.Verify.{IsAccepted, VerifyDue}
 use Rattle.pch_shell.specs.Cnf.{HasMiter, CnfDue}
 use Rattle.pch_shell.specs.Compact.{IsCompaction, CompactDue}
+use Rattle.pch_shell.specs.Place.{IsPlacing, PlaceDue}
 
 -- it is said of the one file
 abbrev pub OfOne : List (List ℕ) → (List ℕ → Type 0) → Type 0
@@ -27,13 +28,15 @@ FilesDue (check cnf_name trace_name) files o = OfTwo files (λ formula trace. Ch
 FilesDue (verify spec_name bundle_name g workers) files o = OfTwo files (λ spec bundle. VerifyDue spec_name g spec bundle o)
 FilesDue (cnf spec_name bundle_name) files o = OfTwo files (λ spec bundle. CnfDue spec_name bundle_name spec bundle o)
 FilesDue (compact bundle_name out_name) files o = OfOne files (λ bundle. CompactDue bundle_name bundle o)
+FilesDue (place design_name g out_name) files o = OfOne files (λ design. PlaceDue design_name g design o)
 
 -- What status 0 says of the bytes of the files that were loaded, and of those that were saved. `check`: the trace
 -- refutes the clauses, which nothing satisfies. `verify`: the bundle is accepted, and its configuration equals the
 -- network. `cnf`: both have a miter. `compact`: what is saved is the bundle with a compacted trace, and is accepted
--- where the old one is.
+-- where the old one is. `place`: what is saved is a configuration that places the design, and equals its network.
 abbrev pub Holds : Form → List (List ℕ) → (saved : List ℕ) → Type 0
 Holds (check cnf_name trace_name) files saved = OfTwo files Refuted
 Holds (verify spec_name bundle_name g workers) files saved = OfTwo files (IsAccepted g)
 Holds (cnf spec_name bundle_name) files saved = OfTwo files (λ spec bundle. (miter : Formula) × HasMiter spec bundle miter)
 Holds (compact bundle_name out_name) files saved = OfOne files (λ bundle. IsCompaction bundle saved)
+Holds (place design_name g out_name) files saved = OfOne files (λ design. IsPlacing g design saved)

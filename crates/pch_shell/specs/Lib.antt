@@ -4,6 +4,7 @@ pub mod Compact
 pub mod Due
 pub mod Loading
 pub mod Outcomes
+pub mod Place
 pub mod Runs
 pub mod Statuses
 pub mod Verify

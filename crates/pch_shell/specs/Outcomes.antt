@@ -2,9 +2,9 @@
 use Rattle.std.specs.Prelude.{ℕ, List, [], Option, Some, None, codes}
 use Rattle.pch_io.specs.declared.store.LoadFail.{LoadFail}
 use Rattle.pch_io.specs.declared.store.LoadFail.TheVariants as fails
-use Rattle.pch_lines.specs.Lines.{and_word, ended}
+use Rattle.pch_lines.specs.Lines.{and_word, and_number, ended}
 use Rattle.pch_shell.specs.declared.status.Status.{Status}
-use Rattle.pch_shell.specs.declared.status.Status.TheVariants.{Done, NotAccepted, Words, Store, BadInput}
+use Rattle.pch_shell.specs.declared.status.Status.TheVariants.{Done, NotAccepted, Words, Store, Unroutable, BadInput}
 
 -- the status of a command, the text that is written, and the bytes that are saved before, if any
 pub record Outcome : Type 0 where
@@ -28,9 +28,17 @@ done_with bytes text = record { status = Done; text = text; saved = Some bytes }
 abbrev pub refused : List ℕ → Outcome
 refused text = ends_with NotAccepted text
 
+-- a design needs more than a fabric has
+abbrev pub unroutable : List ℕ → Outcome
+unroutable text = ends_with Unroutable text
+
 -- a file isn't as its format says
 abbrev pub bad_input : List ℕ → Outcome
 bad_input text = ends_with BadInput text
+
+-- `written` with the number of bytes
+abbrev pub written_line : ℕ → List ℕ
+written_line count = ended (and_number (codes "written") count)
 
 -- the words have none of the forms
 abbrev pub no_words : Outcome

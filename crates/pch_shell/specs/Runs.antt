@@ -1,15 +1,20 @@
 -- What a run of the program does to the store and the sink, which status it ends with, and why.
 use Rattle.std.specs.Prelude.{◌≡◌, ◌≢◌, ◌⊎◌, ℕ, List, [], Option, Some, None}
+use Rattle.blif_defs.specs.declared.mark.TheConstants.{MAX_BYTES}
+use Rattle.fabric_defs.specs.Geometries.{GeometryValue}
+use Rattle.route_defs.specs.declared.demand.Demand.{Demand}
 use Rattle.pch_io.specs.declared.store.LoadFail.{LoadFail}
 use Rattle.pch_io.specs.declared.store.LoadFail.TheVariants.{Failed, NoMemory}
-use Rattle.pch_io.specs.Outside.{Files, Rose, Saves, Spoils, Appends, AppendsPrefix}
-use Rattle.pch_lines.specs.Words.{Form, form_of}
+use Rattle.pch_io.specs.Outside.{Files, Rose, Loads, Saves, Spoils, Appends, AppendsPrefix}
+use Rattle.pch_lines.specs.Words.{Form, form_of, place}
 use Rattle.pch_lines.specs.Files.{files_of, out_of}
+use Rattle.pch_lines.specs.RouteLines.{unroutable_line}
 use Rattle.pch_shell.specs.Outcomes.{Outcome, no_words, not_stored}
 use Rattle.pch_shell.specs.Loading.{AreLoaded, IsNotLoaded}
+use Rattle.pch_shell.specs.Place.{IsUnroutable}
 use Rattle.pch_shell.specs.Due.{FilesDue, Holds}
 use Rattle.pch_shell.specs.declared.status.Status.{Status}
-use Rattle.pch_shell.specs.declared.status.Status.TheVariants.{Done, Words, Store, Sink, Memory}
+use Rattle.pch_shell.specs.declared.status.Status.TheVariants.{Done, Words, Store, Sink, Memory, Unroutable}
 
 -- a store: its files, where it tells them, and its count of faults
 pub record StoreState : Type 0 where
@@ -135,6 +140,20 @@ Shows (Some form) old new =
     (files : List (List ℕ)) × AreLoaded old (files_of form) files
     × (saved : List ℕ) × HoldsOut (out_of form) new saved × Holds form files saved
 
+-- Status 7: the words are those of `place`, the design was loaded, and the text names the first resource of the
+-- fabric of which it needs more than is there. Nothing was saved.
+pub record NamesFirstOver (form : Option Form) (old new : Option Files) (held now : Option (List ℕ)) : Type 0 where
+  pub design_name : List ℕ
+  pub fabric : GeometryValue
+  pub out : List ℕ
+  pub is_place : form ≡ Some (place design_name fabric out)
+  pub design : List ℕ
+  pub loaded : Loads old design_name MAX_BYTES design
+  pub over : Demand
+  pub first : IsUnroutable fabric design over
+  pub told : Appends held now (unroutable_line over)
+  pub unchanged : new ≡ old
+
 -- why a file of the command wasn't loaded or saved
 abbrev pub StoreCause : Option Form → StoreState → StoreState → Type 0
 StoreCause None old new = ⊥
@@ -165,6 +184,8 @@ pub record Runs (words : List (List ℕ)) (old new : StoreState) (before after :
   -- status 0: what the command shows holds of the told files; so a yes of `verify` is a bundle that is accepted, and
   -- whose configuration equals the network
   pub shows : status ≡ Done → Shows (form_of words) old.files new.files
+  -- status 7: the text names the first resource of which the design needs more than is there
+  pub over : status ≡ Unroutable → NamesFirstOver (form_of words) old.files new.files before.held after.held
   -- only words without a form are answered so
   pub words_cause : status ≡ Words → form_of words ≡ None
   -- a fault of the outside is answered only by its cause

@@ -7,7 +7,7 @@ ghost use Rattle.pch_lines.specs.Commands.{form_seen, HasWorkers};
 ghost use Rattle.pch_shell.specs.Due.{FilesDue};
 ghost use Rattle.pch_shell.specs.Runs.{Leaves, Tells, WordsTell, Runs};
 
-use crate::commands::{check, cnf, compact, verifying};
+use crate::commands::{check, cnf, compact, placing, verifying};
 use crate::ending::Ending;
 use crate::finishing::{finish, save};
 use crate::loading::{Loaded, load_all};
@@ -49,6 +49,9 @@ fn work<R: Threads + Sync>(
             cnf::run(alloc, spec, bundle, spec_bytes, bundle_bytes)
         }
         Command::Compact { bundle, .. } => compact::run(alloc, bundle, loaded.one()),
+        Command::Place {
+            design, geometry, ..
+        } => placing::run(alloc, design, geometry, loaded.one()),
     }
 }
 

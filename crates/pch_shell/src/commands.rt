@@ -3,4 +3,5 @@
 pub mod check;
 pub mod cnf;
 pub mod compact;
+pub mod placing;
 pub mod verifying;

@@ -1,6 +1,6 @@
-ghost use Rattle.std.specs.Prelude.{◌≡◌, ◌≢◌, None, IfOk};
+ghost use Rattle.std.specs.Prelude.{◌≡◌, ◌≢◌, None, length, IfOk};
 ghost use Rattle.std.specs.Option.{option_map};
-ghost use Rattle.pch_shell.specs.Outcomes.{done, done_with, refused, bad_input, no_words, not_stored};
+ghost use Rattle.pch_shell.specs.Outcomes.{done, done_with, refused, unroutable, bad_input, written_line, no_words, not_stored};
 ghost use Rattle.pch_io.specs.declared.store.LoadFail.{LoadFail};
 
 use crate::status::Status;
@@ -64,11 +64,26 @@ impl Ending {
         }
     }
 
+    /// These bytes are to be saved, and the line says how many there are.
+    pub fn written(alloc: Global, bytes: Vec<u8>) -> Result<Ending, NoMemory>
+        ensures { IfOk result (λ e. e ≡ done_with bytes.items (written_line (length bytes.items))) }
+    {
+        let line = Line::new(alloc, "written")?.long_number(bytes.len() as u64)?;
+        Ok(Ending::done_with(bytes, line.end()?))
+    }
+
     /// What was delivered isn't accepted.
     pub fn refused(text: Vec<u8>) -> Ending
         ensures { result ≡ refused text.items }
     {
         Ending::with(Status::NotAccepted, text)
+    }
+
+    /// A design needs more than a fabric has.
+    pub fn unroutable(text: Vec<u8>) -> Ending
+        ensures { result ≡ unroutable text.items }
+    {
+        Ending::with(Status::Unroutable, text)
     }
 
     /// A file isn't as its format says.

@@ -1,6 +1,6 @@
 -- The words of a configuration where they are listed part by part: what stands at the place of each word,
 -- and that all are in their ranges where those of each part are.
-use Rattle.std.proofs.Common.{◌≡◌, ℕ, zero, suc, ◌+◌, ◌*◌, ◌<◌, ◌≤◌, List, [], ◌∷◌, ◌++◌, length, get_or, refl, ap, subst, sym, ◌∙◌, arith, length-append}
+use Rattle.std.proofs.Common.{◌≡◌, ℕ, zero, suc, ◌+◌, ◌*◌, ◌<◌, ◌≤◌, List, [], ◌∷◌, ◌++◌, length, get_or, ap, subst, sym, ◌∙◌, arith, length-append}
 use Rattle.std.specs.List.{AllZip}
 use Rattle.std.proofs.lemmas.List.{get_or_append_left, get_or-append-add}
 use Rattle.std.proofs.lemmas.List.Elements.{AllZip-push}
@@ -9,7 +9,7 @@ use Rattle.std.proofs.Math.Nat.{mul_comm}
 use Rattle.fabric_defs.specs.Numbered.{list_of, joined}
 use Rattle.fabric_defs.specs.Geometries.{GeometryValue}
 use Rattle.fabric_defs.specs.Layout.{cell_words, column_words, word_count, column_place, cell_place, channel_place, output_place, cell_limits, column_limits, limits}
-use Rattle.fabric_laws.proofs.NumberedLemmas.{length-list_of, get_or-list_of, length-joined, get_or-joined}
+use Rattle.fabric_laws.proofs.NumberedLemmas.{length-joined, get_or-joined}
 
 -- an element of the second of two lists
 get_or-behind : (xs ys : List ℕ) (n i : ℕ) → length xs ≡ n → get_or (xs ++ ys) (n + i) 0 ≡ get_or ys i 0

@@ -1,5 +1,5 @@
 -- The listed words place the mapped cells.
-use Rattle.std.proofs.Common.{◌≡◌, ℕ, zero, suc, ◌+◌, ◌-◌, ◌*◌, ◌/◌, ◌%◌, ◌^◌, ◌<◌, ◌≤◌, ⊎_elim, List, [], ◌∷◌, ◌++◌, length, get_or, All, Option, Some, None, refl, ap, subst, sym, ◌∙◌, arith, length-append}
+use Rattle.std.proofs.Common.{◌≡◌, ℕ, zero, suc, ◌+◌, ◌-◌, ◌/◌, ◌%◌, ◌^◌, ◌<◌, ◌≤◌, ⊎_elim, List, [], ◌∷◌, ◌++◌, length, get_or, All, Option, Some, None, refl, ap, subst, sym, ◌∙◌, arith, length-append}
 use Rattle.std.specs.List.{AllZip}
 use Rattle.std.proofs.lemmas.Bool.{cases_lt, cases_eq}
 use Rattle.std.proofs.lemmas.List.{get_or_append_left, get_or-append-add, get_or_past, get_or_push, length_push}
@@ -10,7 +10,7 @@ use Rattle.fabric_defs.specs.Numbered.{list_of}
 use Rattle.fabric_defs.specs.declared.limits.TheConstants.{MAX_WORD, WORD_BITS}
 use Rattle.fabric_defs.specs.Geometries.{GeometryValue, pin_count, table_bits, cell_number}
 use Rattle.fabric_defs.specs.Layout.{table_words, cell_words, cell_place, table_place, cell_limits, limits}
-use Rattle.fabric_defs.specs.Configurations.{ConfigValue, IsConfig, pin_word, table_word, table, number_behind, output_word}
+use Rattle.fabric_defs.specs.Configurations.{ConfigValue, IsConfig, table_word, table, number_behind, output_word}
 use Rattle.fabric_laws.specs.TableWords.{words_of}
 use Rattle.fabric_laws.proofs.LayoutLemmas.{table_words-bits}
 use Rattle.fabric_laws.proofs.NumberedLemmas.{length-list_of, get_or-list_of, list_of_elements, list_of-get_or}
@@ -23,7 +23,7 @@ use Rattle.map_defs.specs.Mapped.{MappedValue, mapped_cell, AreMapped}
 use Rattle.map_defs.specs.Columns.{AreColumns}
 use Rattle.map_laws.proofs.MappingLemmas.{Has-get_or}
 use Rattle.route_defs.specs.declared.span.Span.{Span}
-use Rattle.route_defs.specs.Signals.{signal_number, AreSpans}
+use Rattle.route_defs.specs.Signals.{signal_number}
 use Rattle.route_defs.specs.Demands.{cells_in}
 use Rattle.route_defs.specs.Placed.{IsPlaced, row_of, pin_of, output_of, channel_word, track_of}
 use Rattle.route_laws.specs.Words.{tap_word, HasPlacingWords}

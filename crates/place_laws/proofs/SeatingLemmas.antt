@@ -1,11 +1,10 @@
 -- Seats of signals: each signal has one of its own, in the order of first channels.
-use Rattle.std.proofs.Common.{◌≡◌, ℕ, zero, suc, ◌+◌, ◌-◌, ◌*◌, ◌/◌, ◌%◌, ◌<◌, ◌≤◌, ◌⊎◌, ⊎_elim, Bool, cond, ◌==◌, List, [], ◌∷◌, length, take, get_or, Option, Some, None, inl, inr, refl, ap, subst, sym, ◌∙◌, arith, ltb, eq-eqb}
-use Rattle.std.proofs.lemmas.Bool.{cases_lt, cases_eq, lt-ltb, le-ltb, cond-true, cond-false}
+use Rattle.std.proofs.Common.{◌≡◌, ℕ, zero, suc, ◌+◌, ◌-◌, ◌*◌, ◌/◌, ◌%◌, ◌<◌, ◌≤◌, ⊎_elim, cond, ◌==◌, List, length, take, get_or, Option, Some, None, refl, ap, sym, ◌∙◌, arith, ltb, eq-eqb}
+use Rattle.std.proofs.lemmas.Bool.{cases_lt, lt-ltb, le-ltb, cond-true, cond-false}
 use Rattle.std.proofs.lemmas.List.{take_all}
 use Rattle.std.proofs.lemmas.List.Sums.{sum_by_more, count_by_more_yes}
-use Rattle.std.proofs.lemmas.Nat.{mod-mul-add, div-mul-add, div_below, le-div, mul-add-lt, row_fits}
+use Rattle.std.proofs.lemmas.Nat.{mod-mul-add, div-mul-add, div_below, le-div, mul-add-lt}
 use Rattle.std.proofs.Math.Nat.{mul_comm, div-mul-le_self}
-use Rattle.fabric_defs.specs.Numbered.{list_of}
 use Rattle.fabric_defs.specs.Geometries.{GeometryValue, cell_count, cell_number}
 use Rattle.fabric_laws.proofs.LayoutLemmas.{cell_number-lt}
 use Rattle.fabric_laws.proofs.NumberedLemmas.{get_or-list_of}
@@ -13,13 +12,13 @@ use Rattle.cell_defs.specs.declared.source.Source.{Source}
 use Rattle.cell_defs.specs.declared.source.Source.TheVariants.{Zero, Pad, Cell}
 use Rattle.map_defs.specs.Mapped.{MappedValue}
 use Rattle.route_defs.specs.declared.span.Span.{Span}
-use Rattle.route_defs.specs.Spans.{span_at, need, IsLive}
+use Rattle.route_defs.specs.Spans.{span_at, need}
 use Rattle.route_defs.specs.Signals.{IsSignal, signal_number, first_channel, span_of, AreSpans}
 use Rattle.route_defs.specs.Demands.{cells_in}
 use Rattle.route_defs.specs.Tracks.{IsOrdered}
 use Rattle.route_defs.specs.Placed.{row_of, HaveRoom}
 use Rattle.route_laws.specs.Words.{entry_word}
-use Rattle.route_laws.specs.Seats.{AreRows, seat_of, seat_count, seats_until, first_of, entry_of, empty_span, HaveSeats}
+use Rattle.route_laws.specs.Seats.{AreRows, seat_of, seat_count, seats_until, first_of, entry_of, HaveSeats}
 use Rattle.route_laws.proofs.SignalLemmas.{signal_number-lt, signal_at}
 use Rattle.place_laws.specs.Routings.{AreSeats}
 

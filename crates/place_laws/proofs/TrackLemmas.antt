@@ -3,23 +3,22 @@
 use Rattle.std.proofs.Common.{◌≡◌, ℕ, zero, suc, ◌+◌, ◌<◌, ◌≤◌, ⊎_elim, Bool, true, false, cond, ◌&&◌, List, length, get_or, Option, Some, None, refl, ap, subst, sym, ◌∙◌, arith, ltb, eqb, eq-eqb, if◌then◌else◌}
 use Rattle.std.proofs.lemmas.Bool.{cases_lt, cases_eq, lt-ltb, le-ltb, le-leb, lt-leb, ne_eqb, cond-true, cond-false}
 use Rattle.std.proofs.lemmas.Nat.{mul-le}
-use Rattle.fabric_defs.specs.Numbered.{list_of}
-use Rattle.fabric_defs.specs.Geometries.{GeometryValue, IsGeometry}
+use Rattle.fabric_defs.specs.Geometries.{GeometryValue}
 use Rattle.fabric_laws.proofs.NumberedLemmas.{length-list_of, get_or-list_of}
 use Rattle.cell_defs.specs.declared.source.Source.{Source}
 use Rattle.map_defs.specs.Mapped.{MappedValue}
 use Rattle.route_defs.specs.declared.span.Span.{Span}
 use Rattle.route_defs.specs.Spans.{span_at, IsLive, is_live}
-use Rattle.route_defs.specs.Signals.{IsSignal, signal_number, first_channel, span_of, AreSpans}
+use Rattle.route_defs.specs.Signals.{IsSignal, signal_number, first_channel, span_of}
 use Rattle.route_defs.specs.Tracks.{AreTracks}
 use Rattle.route_defs.specs.Placed.{track_of}
-use Rattle.route_laws.specs.Words.{held_word, entry_word}
-use Rattle.route_laws.specs.Seats.{seat_count, seats_until, first_of, entry_of, HaveSeats}
+use Rattle.route_laws.specs.Words.{held_word}
+use Rattle.route_laws.specs.Seats.{seat_count, seats_until, first_of, entry_of}
 use Rattle.route_laws.specs.Listing.{holder, carried_word, listed_track}
 use Rattle.route_laws.proofs.SignalLemmas.{signal_number-lt}
 use Rattle.route_laws.proofs.HolderLemmas.{holder-taken, holder-unlive, holder-other}
 use Rattle.place_laws.specs.Routings.{AreSeats, HaveTracks}
-use Rattle.place_laws.proofs.SeatingLemmas.{seat-number, seat_of-lt, first_of-signal, entry_of-signal, seat_before, seats-ordered, seat-span, live-signal, first_of-seat, first_of-le, first_of-input, entry_of-le, entry_of-input-le}
+use Rattle.place_laws.proofs.SeatingLemmas.{seat-number, seat_of-lt, entry_of-signal, seat_before, seats-ordered, seat-span, live-signal, first_of-seat, first_of-le, first_of-input, entry_of-le, entry_of-input-le}
 
 -- a test of two numbers
 live-test : (s : Span) (c : ℕ) → IsLive s c → is_live c s ≡ true

@@ -1,1 +1,2 @@
 pub mod Routings
+pub mod ReadBack

@@ -1,5 +1,5 @@
 -- Demands that are tested in two parts are tested in their order, and a refusal names the first that is over.
-use Rattle.std.proofs.Common.{◌≡◌, ℕ, zero, suc, ◌+◌, ◌<◌, ◌≤◌, List, [], ◌∷◌, ◌++◌, length, get_or, Some, None, Err, inl, inr, refl, ap, subst, sym, ◌∙◌, arith, append_assoc}
+use Rattle.std.proofs.Common.{◌≡◌, ℕ, zero, suc, ◌+◌, ◌<◌, ◌≤◌, List, [], ◌∷◌, ◌++◌, length, get_or, None, Err, inl, inr, refl, ap, subst, sym, ◌∙◌, arith, append_assoc}
 use Rattle.fabric_defs.specs.Numbered.{joined}
 use Rattle.fabric_defs.specs.Geometries.{GeometryValue}
 use Rattle.fabric_laws.proofs.NumberedLemmas.{joined-more}

@@ -1,8 +1,8 @@
 -- What is known of signals with seats and tracks before their words are written, and of the words after that.
-use Rattle.std.proofs.Common.{◌≡◌, ℕ, ◌+◌, ◌*◌, ◌<◌, ◌≤◌, ⊎_elim, List, length, take, get_or, Option, Result, Ok, Err, refl, ap, subst, sym, ◌∙◌, arith}
+use Rattle.std.proofs.Common.{◌≡◌, ℕ, ◌+◌, ◌*◌, ◌<◌, ⊎_elim, List, length, take, Option, Result, Ok, Err, refl, ap, subst, sym, arith}
 use Rattle.std.proofs.lemmas.Bool.{cases_lt}
 use Rattle.fabric_defs.specs.Bits.{AreBits}
-use Rattle.fabric_defs.specs.declared.limits.TheConstants.{MAX_SIDE, MAX_TRACKS}
+use Rattle.fabric_defs.specs.declared.limits.TheConstants.{MAX_TRACKS}
 use Rattle.fabric_defs.specs.Geometries.{GeometryValue}
 use Rattle.fabric_defs.specs.Configurations.{ConfigValue, ConfigOf}
 use Rattle.fabric_defs.specs.declared.faults.ConfigError.{ConfigError}

@@ -1,10 +1,10 @@
 -- Words that are written one after another are the listed ones.
-use Rattle.std.proofs.Common.{◌≡◌, ℕ, zero, ◌+◌, ◌*◌, ◌<◌, ◌≤◌, ⊎_elim, List, [], ◌∷◌, ◌++◌, length, map, replicate, get_or, Option, Some, None, ap, subst, sym, ◌∙◌, arith, append_assoc}
+use Rattle.std.proofs.Common.{◌≡◌, ℕ, ◌+◌, ◌*◌, ◌<◌, ◌≤◌, ⊎_elim, List, ◌++◌, length, map, replicate, get_or, Option, Some, None, ap, subst, sym, ◌∙◌, arith, append_assoc}
 use Rattle.std.specs.Option.{IfSome}
 use Rattle.std.proofs.lemmas.Bool.{cases_lt}
 use Rattle.std.proofs.lemmas.List.{get_or_past, get_or-replicate, length-replicate}
 use Rattle.std.proofs.lemmas.Nat.{row_fits}
-use Rattle.fabric_defs.specs.Numbered.{list_of, joined}
+use Rattle.fabric_defs.specs.Numbered.{joined}
 use Rattle.fabric_defs.specs.Geometries.{GeometryValue}
 use Rattle.fabric_laws.proofs.NumberedLemmas.{list_of_elements, map-list_of, joined-more}
 use Rattle.route_defs.specs.declared.span.Span.{Span}

@@ -19,7 +19,7 @@ use crate::demands::{column_demands, fabric_demands};
 use crate::refusal::refuse;
 use crate::writing::Routing;
 use fabric::{Config, Geometry};
-use lives::spans_of;
+use live_spans::spans_of;
 use lut_map::Luts;
 use needs::needs_of;
 use route_defs::{RouteError, Span};
@@ -41,7 +41,7 @@ fn tracks_of(alloc: Global, seats: &[usize], chosen: &[usize]) -> Result<Vec<usi
 }
 
 /// The words of a configuration that places the cells, where nothing is wanting.
-fn placing_words(
+fn routed_words(
     alloc: Global,
     l: &Luts,
     g: Geometry,
@@ -87,7 +87,7 @@ pub fn place_route(alloc: Global, l: &Luts, g: Geometry) -> Result<Config, Route
     let rows = rows_of(alloc, columns, g.c() as usize)?;
     let needs = needs_of(alloc, &spans, g.c() as usize + 1)?;
     refuse(&column_demands(alloc, g, &rows.counts, &needs)?)?;
-    let words = placing_words(alloc, l, g, columns, &rows.rows, &spans)?;
+    let words = routed_words(alloc, l, g, columns, &rows.rows, &spans)?;
     match Config::new(g, words) {
         Ok(config) => Ok(config),
         Err(_) => unreachable!(),

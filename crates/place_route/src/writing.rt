@@ -11,9 +11,9 @@ ghost use Rattle.place_route.specs.Routings.{IsRouting};
 use extract::Source;
 use fabric::Geometry;
 use lut_map::Luts;
+use placing_words::{hold, push_cell, push_channel, push_off, tapped_word};
 use route_defs::Span;
 use std::alloc::{AllocError, Global};
-use words::{hold, push_cell, push_channel, push_off, tapped_word};
 
 /// The seats of signals, with the tracks that they have.
 #[derive(Debug, Drop)]

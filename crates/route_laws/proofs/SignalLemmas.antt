@@ -1,12 +1,12 @@
 -- The numbers of signals, and the channels on which signals are live.
-use Rattle.std.proofs.Common.{◌≡◌, ℕ, ◌+◌, ◌<◌, ◌≤◌, ◌⊎◌, ⊎_elim, List, length, get_or, inl, inr, refl, ap, subst, sym, ◌∙◌, ◌-◌, arith}
+use Rattle.std.proofs.Common.{◌≡◌, ℕ, ◌+◌, ◌<◌, ◌≤◌, ⊎_elim, List, length, get_or, refl, ap, subst, ◌-◌, arith}
 use Rattle.std.proofs.lemmas.Bool.{cases_lt}
 use Rattle.cell_defs.specs.declared.source.Source.{Source}
 use Rattle.cell_defs.specs.declared.source.Source.TheVariants.{Zero, Pad, Cell}
 use Rattle.map_defs.specs.Mapped.{MappedValue}
 use Rattle.route_defs.specs.declared.span.Span.{Span}
 use Rattle.route_defs.specs.Spans.{span_at}
-use Rattle.route_defs.specs.Signals.{IsSignal, signal_number, span_of, IsUsedFrom, AreSpans}
+use Rattle.route_defs.specs.Signals.{IsSignal, signal_number, span_of, AreSpans}
 
 -- signals with one number are one
 pub signal_number-apart : (l : MappedValue) (s t : Source) → IsSignal l s → IsSignal l t → signal_number l s ≡ signal_number l t → s ≡ t

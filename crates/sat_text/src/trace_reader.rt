@@ -91,8 +91,12 @@ impl Reading {
                 index: clause.index,
             });
         }
+        let guess = self.found.last().copied().unwrap_or(0).wrapping_add(1);
         self.found.clear();
-        match self.places.find_all(&clause.antecedents, &mut self.found)? {
+        match self
+            .places
+            .find_all(&clause.antecedents, guess, &mut self.found)?
+        {
             Some(antecedent) => Err(TraceError::Unknown {
                 index: clause.index,
                 antecedent,

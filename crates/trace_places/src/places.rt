@@ -1,4 +1,4 @@
-ghost use Rattle.std.specs.Prelude.{◌≡◌, ◌==◌, ℕ, vec_len, slice_index, if◌then◌else◌, ◌+◌, ◌<◌, ◌^◌, ◌∷◌, ◌++◌, [], length, IfOk, OnOk, OnErr, Ok, Err, None, MatchOption};
+ghost use Rattle.std.specs.Prelude.{◌≡◌, ◌==◌, ℕ, vec_len, slice_index, if◌then◌else◌, ◌+◌, ◌<◌, ◌^◌, ◌∷◌, ◌++◌, true, [], length, IfOk, OnOk, OnErr, Ok, Err, Some, None, MatchOption};
 ghost use Rattle.std.specs.Ordering.{nat_cmp};
 ghost use Rattle.std.specs.BTreeMap.{get};
 ghost use Rattle.sat_text_defs.specs.TraceReading.{places_from};
@@ -81,6 +81,33 @@ impl Places {
         self.others.get(&index).copied()
     }
 
+    /// The place where the index stands. An index that is too great for the table is looked for at the
+    /// places `guess` and `last` first, whatever those are.
+    #[inline]
+    fn place_near(&self, index: u32, guess: u32, last: u32) -> Option<u32>
+        ensures { result ≡ place_of self.now index }
+    {
+        if (index as usize) < self.table.len() {
+            return self.place(index);
+        }
+        if self.stands_at(index, guess) {
+            return Some(guess);
+        }
+        if self.stands_at(index, last) {
+            return Some(last);
+        }
+        self.place(index)
+    }
+
+    // Whether the index stands at this place.
+    #[inline]
+    fn stands_at(&self, index: u32, place: u32) -> bool
+        ensures { result ≡ true → place_of self.now index ≡ Some place }
+    {
+        let at = place as usize;
+        at < self.indices.len() && self.indices[at] == index
+    }
+
     /// Appends an index that doesn't stand there yet.
     pub fn push(&mut self, index: u32) -> Result<(), NoMemory>
         requires { place_of self.old index ≡ None }
@@ -124,16 +151,30 @@ impl Places {
     }
 
     /// The places of all these indices, appended to `found`, or the first index that doesn't stand there.
-    pub fn find_all(&self, indices: &[u32], found: &mut Vec<u32>) -> Result<Option<u32>, NoMemory>
+    ///
+    /// Clauses are often named in their order, and the last one is named most: so an index that is too
+    /// great for the table is looked for at the last place first, and behind the place that was found
+    /// before, which is `guess` at the beginning. Any guess is right.
+    pub fn find_all(
+        &self,
+        indices: &[u32],
+        guess: u32,
+        found: &mut Vec<u32>,
+    ) -> Result<Option<u32>, NoMemory>
         ensures { IfOk result (λ unknown. MatchOption unknown
             (places_from self.now found.old.items indices.now ≡ Ok found.new.items)
             (λ x. places_from self.now found.old.items indices.now ≡ Err x)) }
     {
+        let last = (self.indices.len().min(u32::MAX as usize) as u32).wrapping_sub(1);
+        let mut next = guess;
         for index in indices {
-            let Some(place) = self.place(*index) else {
+            let Some(place) = self.place_near(*index, next, last) else {
                 return Ok(Some(*index));
             };
             found.push(place)?;
+            if place != last {
+                next = place.wrapping_add(1);
+            }
         }
         Ok(None)
     }
@@ -223,8 +264,9 @@ fn cover(table: &mut Vec<u32>, limit: usize, at: usize) -> Result<(), NoMemory>
     if at < table.len() {
         return Ok(());
     }
-    let doubled = (2 * table.len() as u64).min(limit as u64) as usize;
-    table.resize(doubled.max(at + 1), 0)?;
+    // What is filled takes memory, so the table gets no more than an eighth too long.
+    let longer = (table.len() as u64 + table.len() as u64 / 8).min(limit as u64) as usize;
+    table.resize(longer.max(at + 1), 0)?;
     Ok(())
 }
 

@@ -1,4 +1,5 @@
 pub mod Compacted
+pub mod Delivered
 pub mod Judging
 pub mod Outcomes
 pub mod Parts

@@ -1,4 +1,5 @@
 ghost use Rattle.std.specs.Prelude.{◌≡◌, ℕ, ◌<◌, ◌⊎◌, List, All, length};
+ghost use Rattle.clause_defs.specs.Formulas.{Formula};
 ghost use Rattle.clause_defs.specs.Traces.{Entry};
 ghost use Rattle.sat_text_defs.specs.declared.limits.TheConstants.{MAX_TRACE_BYTES};
 ghost use Rattle.sat_text_defs.specs.TraceText.{TraceText};
@@ -12,6 +13,8 @@ ghost use Rattle.miter_defs.specs.Equality.{Equal};
 ghost use Rattle.bundle_defs.specs.Bundles.{BundleValue, BundleText, bundle_bytes};
 ghost use Rattle.verify_defs.specs.Acceptance.{HasParts, AcceptsWith, Accepts};
 ghost use Rattle.verify_defs.specs.Compacting.{compacted_bundle};
+ghost use Rattle.verify_defs.specs.Deliveries.{IsDeliveredMiter, MiterFault};
+ghost use Rattle.verify_defs.specs.declared.miter_error.MiterError.{MiterError};
 ghost use Rattle.verify_defs.specs.Refusals.{FirstRefusal};
 ghost use Rattle.verify_defs.specs.declared.refusal.Refusal.{Refusal};
 
@@ -55,4 +58,14 @@ pub fn compacted_is_accepted()
         → (g : GeometryValue) (net : Network) (config : ConfigValue)
         → AcceptsWith g net bytes config
         → AcceptsWith g net (bundle_bytes (compacted_bundle bundle steps)) config }
+{}
+
+/// The bytes of a bundle have one miter with a net, or one first fault, and never both.
+pub fn delivered_miter_is_one()
+    ensures miter { (net : Network) (bytes : List ℕ) (m n : Formula)
+        → IsDeliveredMiter net bytes m → IsDeliveredMiter net bytes n → m ≡ n }
+    ensures fault { (net : Network) (bytes : List ℕ) (e f : MiterError)
+        → MiterFault net bytes e → MiterFault net bytes f → e ≡ f }
+    ensures not_both { (net : Network) (bytes : List ℕ) (m : Formula) (e : MiterError)
+        → IsDeliveredMiter net bytes m → MiterFault net bytes e → ⊥ }
 {}

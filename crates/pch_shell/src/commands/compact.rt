@@ -10,8 +10,8 @@ ghost use Rattle.sat_text_defs.specs.declared.errors.TraceError.{TraceError};
 ghost use Rattle.bundle_defs.specs.declared.faults.BundleError.{BundleError};
 ghost use Rattle.pch_lines.specs.Lines.{and_word};
 ghost use Rattle.pch_lines.specs.FaultLines.{bundle_line, trace_line};
-ghost use Rattle.pch_shell.specs.Outcomes.{done_with, bad_input};
-ghost use Rattle.pch_shell.specs.Compact.{CompactDue, written_line};
+ghost use Rattle.pch_shell.specs.Outcomes.{done_with, bad_input, written_line};
+ghost use Rattle.pch_shell.specs.Compact.{CompactDue};
 
 use crate::ending::Ending;
 use bundle::{Bundle, BundleError, print_bundle, read_bundle};
@@ -50,8 +50,7 @@ fn compacted(alloc: Global, bundle: Bundle<'_>, steps: Trace) -> Result<Ending, 
 {
     let trace = print_trace(alloc, &compact(alloc, steps)?)?;
     let bytes = print_bundle(alloc, 2, bundle.geometry, bundle.config, &trace)?;
-    let written = Line::new(alloc, "written")?.long_number(bytes.len() as u64)?;
-    Ok(Ending::done_with(bytes, written.end()?))
+    Ending::written(alloc, bytes)
 }
 
 /// The bundle has a fault, or isn't of the version that is wanted.

@@ -1,11 +1,13 @@
-use Rattle.std.proofs.Common.{◌≡◌, ◌*◌, length}
-use Rattle.eval_lanes.specs.Evaluation.{HaveChannel, HaveCells}
+use Rattle.std.proofs.Common.{◌≡◌, ℕ, ◌*◌, ◌<◌, List, length}
+use Rattle.eval_lanes.specs.Blocks.{words_of}
+use Rattle.eval_lanes.specs.Places.{NamesChannel, HaveValues}
 use Rattle.eval_lanes.proofs.evaluation.sweep.Given as goal
 
 abbrev pub invariant-loop-column : goal.invariant-loop-column
-invariant-loop-column l = record {
-  tracks : length l.tracks ≡ length l.fn.tracks;
-  places : length l.cells ≡ length l.fn.cells;
-  channel : HaveChannel l.config l.fn.inputs l.column l.tracks;
-  cells : HaveCells l.config l.fn.inputs (l.column * l.config.geometry.rows) l.cells;
+invariant-loop-column g l = record {
+  places : length l.values ≡ length l.fn.values;
+  channel : NamesChannel l.config l.column l.tracks;
+  cells : (i : ℕ) (inputs : ℕ → List ℕ) → i < g.W.Block.width
+      → HaveValues l.config inputs 0 (words_of g.W.Block.word l.fn.values i)
+      → HaveValues l.config inputs (l.column * l.config.geometry.rows) (words_of g.W.Block.word l.values i);
 }

@@ -1,11 +1,11 @@
-use Rattle.std.proofs.Common.{◌≡◌, ◌+◌, ◌*◌, ◌<◌, ◌≤◌, ℕ, List, length, vec_len, get_or, None, Ok, Err, inr, ap, subst, sym, ◌∙◌, arith}
+use Rattle.std.proofs.Common.{◌≡◌, ◌+◌, ◌*◌, ◌≤◌, ℕ, List, length, vec_len, get_or, None, Ok, Err, inr, ap, subst, sym, ◌∙◌, arith}
 use Rattle.std.proofs.lemmas.Result.{err_from_is_err_and}
 use Rattle.fabric_defs.specs.Configurations.{ConfigOf}
 use Rattle.route_defs.specs.declared.span.Span.{Span}
 use Rattle.route_defs.specs.declared.demand.Demand.{Demand}
 use Rattle.route_defs.specs.Spans.{span_at, need}
 use Rattle.route_defs.specs.Signals.{AreSpans}
-use Rattle.route_defs.specs.Demands.{cells_in, demands, first_over}
+use Rattle.route_defs.specs.Demands.{demands, first_over}
 use Rattle.route_defs.specs.Routes.{RouteOf}
 use Rattle.route_laws.proofs.SignalLemmas.{ends-le}
 use Rattle.place_route.specs.Refusals.{Refuses, fabric_demands, listed_demands}
@@ -68,8 +68,8 @@ returns-in_err-refuse-2-clause-route c =
     rw (p.1, p.2) (inr fault)
 
 -- where no part has a demand that is over, nothing is wanting
-pub placing_words-requires-clause-met : goal.placing_words-requires-clause-met
-placing_words-requires-clause-met c =
+pub routed_words-requires-clause-met : goal.routed_words-requires-clause-met
+routed_words-requires-clause-met c =
     let l = c.args.l.now in
     let g = c.args.g in
     let columns = c.columns-columns.result.now in

@@ -1,4 +1,4 @@
-use Rattle.std.proofs.Common.{rules, ◌≡◌, ◌<◌, ◌+◌, ℕ, length, subst, refl, arith, get_or}
+use Rattle.std.proofs.Common.{rules, ◌≡◌, ◌<◌, ℕ, length, subst, refl, arith, get_or}
 use Rattle.route_laws.specs.Seats.{HaveSeats}
 use Rattle.seats.proofs.SeatLemmas.{seats_none, seat_taken}
 use Rattle.seats.proofs.seating.take_seats.Goals as goal

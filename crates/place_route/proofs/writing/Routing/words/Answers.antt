@@ -1,4 +1,4 @@
-use Rattle.std.proofs.Common.{rules, ◌≡◌, ◌+◌, ◌*◌, ◌≤◌, ◌++◌, [], ℕ, List, length, map, replicate, Option, None, refl, ap, subst, sym, ◌∙◌, arith, append-nil}
+use Rattle.std.proofs.Common.{rules, ◌≡◌, ◌++◌, [], ℕ, List, length, map, replicate, None, refl, ap, subst, sym, ◌∙◌, arith, append-nil}
 use Rattle.std.proofs.lemmas.List.{length-replicate}
 use Rattle.route_defs.specs.declared.span.Span.{Span}
 use Rattle.route_laws.specs.Seats.{seats_until}

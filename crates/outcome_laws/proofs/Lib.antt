@@ -1,0 +1,7 @@
+pub mod Checking
+pub mod Compacting
+pub mod Deciding
+pub mod Delivering
+pub mod Placing
+pub mod Specifying
+pub mod Verifying

@@ -1,0 +1,11 @@
+//! Laws of what the program's commands come to, whose definitions stand in `pch_shell`.
+//!
+//! Each function of this crate does nothing. Its contract is a law, which whoever calls it can rely
+//! on: the bytes of a command's files have one status and one text that is due, so that they decide
+//! how a run ends unless the outside fails or memory is wanting. Of the lemmas, those on each command
+//! stand in a file of their own, and `proofs/Deciding` has them together.
+#![tactic(auto)]
+
+mod laws;
+
+pub use laws::files_have_one_outcome;

@@ -1,0 +1,5 @@
+pub mod Files
+pub mod Meant
+pub mod Points
+pub mod Replies
+pub mod Transcripts

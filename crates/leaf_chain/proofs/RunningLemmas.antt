@@ -6,10 +6,13 @@ use Rattle.clause_defs.specs.Literals.{Literal, negation, code}
 use Rattle.clause_defs.specs.Clauses.{Lits, Has, SameSet, IsOrdered}
 use Rattle.clause_defs.specs.Resolution.{Step, Resolves}
 use Rattle.chain_check.proofs.ClauseLists.{Has-take_more, Has-take, Has-get, Has-snoc}
-use Rattle.log_defs.specs.Logs.{LogValue, IsIndexOf, clause_of_log}
+use Rattle.log_defs.specs.Logs.{LogValue, IsIndexOf, all_clauses, clause_of_log}
 use Rattle.log_laws.proofs.ChainGrowth.{resolves_more}
 use Rattle.leaf_defs.specs.Evaluated.{Evaluated, value_of, true_literal, false_literal, IsFalseAmong, IsReason, IsEvaluated, variable_at, clause_numbered}
 use Rattle.leaf_chain.specs.Marks.{marked, IsMarked, HasVariable, AreMarksAmong, IsRunning, IsCollected}
+use Rattle.clause_laws.proofs.LiteralLemmas.{literal_cases}
+use Rattle.log_laws.proofs.TraceOfLemmas.{Has-get_or}
+use Rattle.leaf_chain.proofs.PlaceLemmas.{fewer}
 use Rattle.leaf_chain.proofs.MarkLemmas.{step_marked, marks_known, marked_clause, marked_among, marked-Has, Has-marked_of}
 
 -- a member of a list of numbers stands at a place
@@ -70,7 +73,7 @@ running_pass e log marks ants i h lt none = record {
 
 -- a marked one is resolved away with its reason
 pub running_resolved : (e : Evaluated) (log : LogValue) (before after : List Bool) (ants : List ℕ) (i index : ℕ)
-    → IsEvaluated log.originals.clauses e → IsRunning e log before ants (i + 1) → e.chosen ≤ i → i < length e.order
+    → IsEvaluated (all_clauses log.originals.clauses log.derived) e → IsRunning e log before ants (i + 1) → e.chosen ≤ i → i < length e.order
     → IsMarked before (variable_at e.order i) → IsIndexOf log index
     → IsReason e.values (take i e.order) (variable_at e.order i) (clause_of_log log index) → length after ≡ length e.values
     → ((u : ℕ) → IsMarked after u ↔ ((IsMarked before u ⊎ HasVariable (clause_of_log log index) u) × (u ≢ variable_at e.order i)))
@@ -137,7 +140,8 @@ pub collected_more : (e : Evaluated) (marks : List Bool) (i : ℕ) (c : Lits) �
 collected_more e marks i c h lt there lower =
     let v = variable_at e.order i in
     let l = false_literal e.values v in
-    let more = λ u. Has-take_more e.order i v u lt (get_or_default e.order i 0 v lt) in
+    let more : (u : ℕ) → Has (take (i + 1) e.order) u ↔ (Has (take i e.order) u ⊎ (v ≡ u)) =
+    λ u. Has-take_more e.order i v u lt (get_or_default e.order i 0 v lt) in
     record {
       ordered = IsOrdered-snoc c l h.ordered (λ m here. code_less m l (lower m.variable (h.from_marks m here).2));
       from_marks = λ m here. elim ((Has-snoc c l m).0 here) [
@@ -163,3 +167,32 @@ collected_all e marks n c h among many l = (
   λ here. let own = marked-Has marks e.values l here in subst (Has c) (sym own.1) (h.all_marks l.variable own.0 (among l.variable own.0)),
   λ here. let own = h.from_marks l here in Has-marked_of marks e.values l many own.0 own.1,
 )
+
+-- ---- an evaluation
+
+-- there are fewer variables in the order than places
+pub evaluated_few : (f : List Lits) (e : Evaluated) → IsEvaluated f e → 1 ≤ length e.values → length e.order < length e.values
+evaluated_few f e h some = fewer e.order (length e.values) some h.distinct h.within
+
+-- the variables of a reason are within the places
+pub reason_variables : (f : List Lits) (e : Evaluated) (i : ℕ) (c : Lits) → IsEvaluated f e → i < length e.order
+    → IsReason e.values (take i e.order) (variable_at e.order i) c → (l : Literal) → Has c l → l.variable < length e.values
+reason_variables f e i c h lt reason l here =
+    elim (literal_cases l (true_literal e.values (variable_at e.order i))) [
+      | inl same ↦
+          let own = (h.within (variable_at e.order i) (Has-get_or e.order i 0 lt)).1 in
+          let variable = ap (λ (x : Literal). x.variable) same in omega arith
+      | inr other ↦ (h.within l.variable (Has-take e.order i l.variable (reason.others l here other).1)).1
+    ]
+
+-- a variable that isn't marked
+pub unmarked : (marks : List Bool) (v : ℕ) (b : Bool) → v < length marks → b ≡ get_or marks v b → b ≡ false → IsMarked marks v → ⊥
+unmarked marks v b lt read none m = let e : true ≡ false = sym m ∙ get_or_default marks v false b lt ∙ sym read ∙ none in cc
+
+-- the variables before a chosen one are lower
+pub lower_before : (order : List ℕ) (n i u : ℕ) → ((j k : ℕ) → j < k → k < n → variable_at order j < variable_at order k) → i < n
+    → Has (take i order) u → u < variable_at order i
+lower_before order n i u ordered lt h =
+    let at = place_in_take order i u h in
+    let less = ordered at.0 i at.1 lt in
+    let same = at.3 in omega arith

@@ -4,10 +4,10 @@ ghost use Rattle.clause_defs.specs.Clauses.{Has, SameSet, IsOrdered};
 ghost use Rattle.clause_defs.specs.Resolution.{Step};
 ghost use Rattle.clause_defs.specs.declared.verdict.TheConstants.{MAX_VARIABLE};
 ghost use Rattle.log_defs.specs.Logs.{IsIndexOf, clause_of_log};
-ghost use Rattle.leaf_defs.specs.Evaluated.{IsEvaluated, IsReason, IsFalseAmong, variable_at, false_literal};
+ghost use Rattle.leaf_defs.specs.Evaluated.{IsFalseAmong, variable_at};
 ghost use Rattle.leaf_chain.specs.Marks.{marked, IsMarked, HasVariable, AreMarksAmong, IsRunning};
 ghost use Rattle.leaf_chain.specs.Growing.{FitsVariables};
-ghost use Rattle.leaf_chain.specs.Leaves.{LeafEnds};
+ghost use Rattle.leaf_chain.specs.Leaves.{IsEvaluatedIn, LeafEnds};
 
 use crate::evaluation::Evaluation;
 use clause_defs::MAX_VARIABLE;
@@ -65,7 +65,7 @@ impl Chains {
         start: u32,
         log: &mut Log,
     ) -> Result<u32, LogEnd>
-        requires evaluated { IsEvaluated log.old.originals.clauses e.now }
+        requires evaluated { IsEvaluatedIn log.old e.now }
         requires start { IsIndexOf log.old start }
         requires all_false { IsFalseAmong e.now.values e.now.order (clause_of_log log.old start) }
         requires room { length self.old.marks ≡ length e.now.values }
@@ -76,13 +76,15 @@ impl Chains {
         self.resolve(e, log);
         self.collect(e);
         match log.derive(&self.lits, &self.antecedents) {
+            Ok(index) => Ok(index),
             Err(LogEnd::Kept { index }) => Ok(index),
-            end => end,
+            Err(LogEnd::Spent { used, need }) => Err(LogEnd::Spent { used, need }),
         }
     }
 
     // Begins with the clause that has the index `start`.
     fn start(&mut self, e: &Evaluation, start: u32, log: &Log)
+        requires evaluated { IsEvaluatedIn log.now e.now }
         requires start { IsIndexOf log.now start }
         requires all_false { IsFalseAmong e.now.values e.now.order (clause_of_log log.now start) }
         requires room { length self.old.marks ≡ length e.now.values }
@@ -96,7 +98,7 @@ impl Chains {
 
     // Resolves with the reasons of all variables that weren't chosen, from the last one on.
     fn resolve(&mut self, e: &Evaluation, log: &Log)
-        requires evaluated { IsEvaluated log.now.originals.clauses e.now }
+        requires evaluated { IsEvaluatedIn log.now e.now }
         requires running { IsRunning e.now log.now self.old.marks self.old.antecedents (length e.now.order) }
         ensures running { IsRunning e.now log.now self.new.marks self.new.antecedents e.now.chosen }
         ensures places { FitsVariables e.now }
@@ -112,7 +114,7 @@ impl Chains {
 
     // Resolves with the reason of variable number `i` in the order, which the running clause has.
     fn resolve_at(&mut self, e: &Evaluation, i: u32, log: &Log)
-        requires evaluated { IsEvaluated log.now.originals.clauses e.now }
+        requires evaluated { IsEvaluatedIn log.now e.now }
         requires running { IsRunning e.now log.now self.old.marks self.old.antecedents (i + 1) }
         requires derived { (e.now.chosen ≤ i) × (i < length e.now.order) }
         requires there { IsMarked self.old.marks (variable_at e.now.order i) }
@@ -138,10 +140,11 @@ impl Chains {
         self.lits.clear();
         for i in 0..e.chosen() {
             let variable = e.variable(i);
-            if self.marks[variable as usize] {
-                self.lits
-                    .push_reserved(Lit::from_parts(variable, !e.value(variable)));
+            if !self.marks[variable as usize] {
+                continue;
             }
+            let positive = !e.value(variable);
+            self.lits.push_reserved(Lit::from_parts(variable, positive));
         }
     }
 }

@@ -1,14 +1,13 @@
 -- One more variable with a value keeps what an evaluation is.
-use Rattle.std.proofs.Common.{◌≡◌, ◌≢◌, ℕ, zero, suc, ◌+◌, ◌-◌, ◌<◌, ◌≤◌, inl, inr, Bool, true, false, not, List, [], ◌∷◌, ◌++◌, length, get_or, take, set, refl, sym, ◌∙◌, ap, subst, arith, length-append, length-set}
+use Rattle.std.proofs.Common.{◌≡◌, ◌≢◌, ℕ, ◌+◌, ◌<◌, ◌≤◌, inl, inr, Bool, false, not, List, [], ◌∷◌, ◌++◌, length, get_or, take, set, refl, sym, ◌∙◌, ap, subst, arith, length-append, length-set}
 use Rattle.std.proofs.lemmas.Bool.{cases_lt}
 use Rattle.std.proofs.lemmas.List.{get_or-set_other, get_or_append_left, take-append-le, take_all}
 use Rattle.std.proofs.Math.Seq.{get_or-append_seam}
-use Rattle.clause_defs.specs.Literals.{Literal}
 use Rattle.clause_defs.specs.Clauses.{Lits, Has}
 use Rattle.chain_check.proofs.ClauseLists.{Has-snoc, Has-take}
 use Rattle.log_laws.proofs.TraceOfLemmas.{Has-get_or}
 use Rattle.leaf_defs.specs.Evaluated.{Evaluated, value_of, true_literal, false_literal, IsReason, IsEvaluated, variable_at, clause_numbered}
-use Rattle.leaf_chain.specs.Growing.{IsWithout, CanChoose, with_chosen, with_implied}
+use Rattle.leaf_chain.specs.Growing.{IsWithout, with_chosen, with_implied}
 
 -- nothing has a value yet
 pub evaluated_empty : (f : List Lits) (values : List Bool) → IsEvaluated f (record { values = values; order = []; chosen = 0; reasons = [] })

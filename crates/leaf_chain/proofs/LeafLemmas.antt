@@ -1,10 +1,10 @@
 -- The clause at the end of a chain.
-use Rattle.std.proofs.Common.{◌≡◌, ℕ, zero, suc, ◌+◌, ◌-◌, ◌<◌, ◌≤◌, ◌⊎◌, inl, inr, Bool, List, [], ◌∷◌, ◌++◌, length, length-append, map, take, Result, Ok, Err, refl, sym, ◌∙◌, ap, subst, arith}
+use Rattle.std.proofs.Common.{◌≡◌, ℕ, ◌+◌, ◌≤◌, ◌⊎◌, inl, inr, Bool, List, [], ◌∷◌, ◌++◌, length, length-append, map, take, Result, Ok, Err, refl, sym, ◌∙◌, ap, subst, arith}
 use Rattle.std.proofs.lemmas.Bool.{cases_lt}
-use Rattle.clause_defs.specs.Clauses.{Lits, Has, SameSet}
+use Rattle.clause_defs.specs.Clauses.{Lits, SameSet}
 use Rattle.clause_defs.specs.Resolution.{Resolves}
 use Rattle.clause_laws.proofs.ClauseLemmas.{same_refl}
-use Rattle.log_defs.specs.Logs.{Derived, derived_at, words_of, Words, LogValue, IsIndexOf, HasDerived, Extends, clause_of_log}
+use Rattle.log_defs.specs.Logs.{Derived, words_of, LogValue, HasDerived, clause_of_log}
 use Rattle.log_defs.specs.Deriving.{IsTaken, IsOver, DeriveEnds, with_derived}
 use Rattle.log_defs.specs.declared.log_end.LogEnd.{LogEnd}
 use Rattle.log_defs.specs.declared.log_end.LogEnd.TheVariants.{Kept, Spent}

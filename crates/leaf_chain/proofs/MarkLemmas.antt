@@ -1,9 +1,9 @@
 -- Clauses of false literals as marks of variables.
-use Rattle.std.proofs.Common.{◌≡◌, ◌≢◌, ℕ, zero, suc, ◌+◌, ◌-◌, ◌<◌, ◌≤◌, ◌↔◌, ◌⊎◌, inl, inr, Bool, true, false, not, List, [], ◌∷◌, ◌++◌, length, get_or, take, set, replicate, refl, sym, ◌∙◌, ap, subst, arith, add-one}
+use Rattle.std.proofs.Common.{◌≡◌, ◌≢◌, ℕ, zero, suc, ◌+◌, ◌<◌, ◌↔◌, ◌⊎◌, inl, inr, Bool, true, false, not, List, [], ◌∷◌, length, get_or, take, set, replicate, refl, sym, ◌∙◌, ap, subst, arith}
 use Rattle.std.proofs.lemmas.Bool.{cases_lt, cases_eq}
 use Rattle.std.proofs.lemmas.List.{get_or_past, get_or-set_same, get_or-set_other}
-use Rattle.clause_defs.specs.Literals.{Literal, negation, code}
-use Rattle.clause_defs.specs.Clauses.{Lits, Has, SameSet, IsOrdered}
+use Rattle.clause_defs.specs.Literals.{Literal, negation}
+use Rattle.clause_defs.specs.Clauses.{Lits, Has, SameSet}
 use Rattle.clause_defs.specs.Resolution.{Clashes, Step}
 use Rattle.chain_check.proofs.ClauseLists.{Has-take_more}
 use Rattle.clause_laws.proofs.LiteralLemmas.{literal_cases, negation-negation}

@@ -1,14 +1,13 @@
 -- The running clause of a chain, from variable to variable.
-use Rattle.std.proofs.Common.{◌≡◌, ◌≢◌, ℕ, zero, suc, ◌+◌, ◌-◌, ◌*◌, ◌<◌, ◌≤◌, ◌↔◌, ◌⊎◌, inl, inr, Bool, true, false, not, List, [], ◌∷◌, ◌++◌, length, map, get_or, take, set, refl, sym, ◌∙◌, ap, subst, arith, add-one, length-append}
-use Rattle.std.proofs.lemmas.Bool.{cases_lt}
+use Rattle.std.proofs.Common.{◌≡◌, ◌≢◌, ℕ, zero, suc, ◌+◌, ◌*◌, ◌<◌, ◌≤◌, ◌↔◌, ◌⊎◌, inl, inr, Bool, true, false, List, [], ◌∷◌, ◌++◌, length, map, get_or, take, refl, sym, ◌∙◌, ap, subst, arith, length-append}
 use Rattle.std.proofs.lemmas.List.{map-append, take_all, get_or_default}
-use Rattle.clause_defs.specs.Literals.{Literal, negation, code}
+use Rattle.clause_defs.specs.Literals.{Literal, code}
 use Rattle.clause_defs.specs.Clauses.{Lits, Has, SameSet, IsOrdered}
 use Rattle.clause_defs.specs.Resolution.{Step, Resolves}
-use Rattle.chain_check.proofs.ClauseLists.{Has-take_more, Has-take, Has-get, Has-snoc}
+use Rattle.chain_check.proofs.ClauseLists.{Has-take_more, Has-take, Has-snoc}
 use Rattle.log_defs.specs.Logs.{LogValue, IsIndexOf, all_clauses, clause_of_log}
 use Rattle.log_laws.proofs.ChainGrowth.{resolves_more}
-use Rattle.leaf_defs.specs.Evaluated.{Evaluated, value_of, true_literal, false_literal, IsFalseAmong, IsReason, IsEvaluated, variable_at, clause_numbered}
+use Rattle.leaf_defs.specs.Evaluated.{Evaluated, true_literal, false_literal, IsFalseAmong, IsReason, IsEvaluated, variable_at}
 use Rattle.leaf_chain.specs.Marks.{marked, IsMarked, HasVariable, AreMarksAmong, IsRunning, IsCollected}
 use Rattle.clause_laws.proofs.LiteralLemmas.{literal_cases}
 use Rattle.log_laws.proofs.TraceOfLemmas.{Has-get_or}

@@ -1,5 +1,5 @@
 -- One more variable with a value.
-use Rattle.std.specs.Prelude.{◌≡◌, ℕ, ◌+◌, ◌<◌, ◌≤◌, Bool, List, [], ◌∷◌, ◌++◌, length, set}
+use Rattle.std.specs.Prelude.{◌≡◌, ℕ, ◌+◌, ◌<◌, ◌≤◌, Bool, [], ◌∷◌, ◌++◌, length, set}
 use Rattle.clause_defs.specs.declared.verdict.TheConstants.{MAX_VARIABLE}
 use Rattle.clause_defs.specs.Clauses.{Has}
 use Rattle.leaf_defs.specs.Evaluated.{Evaluated, variable_at}

@@ -1,10 +1,8 @@
-use Rattle.std.proofs.Common.{◌≡◌, ℕ, ◌+◌, ◌<◌, List, [], ◌∷◌, ◌++◌, Bool, true, false, not, length, take, get_or, ap, sym, ◌∙◌, subst, arith}
+use Rattle.std.proofs.Common.{◌≡◌, ◌+◌, List, [], ◌∷◌, ◌++◌, Bool, false, not, length, ap, sym, ◌∙◌, subst, arith}
 use Rattle.std.specs.Global.{Vec}
 use Rattle.std.proofs.lemmas.List.{get_or_default}
-use Rattle.clause_defs.specs.Literals.{Literal}
-use Rattle.clause_defs.specs.Clauses.{Lits, Has, SameSet}
-use Rattle.leaf_defs.specs.Evaluated.{variable_at, value_of, false_literal}
-use Rattle.leaf_chain.specs.Marks.{Chaining, marked, IsMarked, IsCollected}
+use Rattle.leaf_defs.specs.Evaluated.{variable_at, false_literal}
+use Rattle.leaf_chain.specs.Marks.{Chaining, IsMarked, IsCollected}
 use Rattle.leaf_chain.proofs.RunningLemmas.{collected_pass, collected_more, collected_all, unmarked, lower_before}
 use Rattle.leaf_chain.proofs.chains.Chains.collect.Goals as goal
 

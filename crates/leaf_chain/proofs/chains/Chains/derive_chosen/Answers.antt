@@ -1,5 +1,5 @@
-use Rattle.std.proofs.Common.{◌≡◌, ℕ, List, length, map, Result, ap, sym, Err, ◌∙◌, subst}
-use Rattle.clause_defs.specs.Clauses.{Lits, SameSet}
+use Rattle.std.proofs.Common.{◌≡◌, ℕ, List, map, Result, ap, sym, Err, ◌∙◌, subst}
+use Rattle.clause_defs.specs.Clauses.{Lits}
 use Rattle.clause_defs.specs.Resolution.{Resolves}
 use Rattle.clause_laws.proofs.Resolvents.{resolves_same}
 use Rattle.log_defs.specs.Logs.{clause_of_log}

@@ -1,4 +1,4 @@
-use Rattle.std.proofs.Common.{◌≡◌, ◌+◌, ◌-◌, length, ap, sym, ◌∙◌, subst, arith}
+use Rattle.std.proofs.Common.{◌≡◌, ◌+◌, ◌-◌, length, ap, sym, subst, arith}
 use Rattle.leaf_defs.specs.Evaluated.{variable_at}
 use Rattle.leaf_chain.specs.Marks.{Chaining, IsMarked, IsRunning}
 use Rattle.leaf_chain.proofs.RunningLemmas.{running_pass, unmarked}

@@ -1,4 +1,4 @@
-use Rattle.std.proofs.Common.{◌≡◌, ◌≢◌, ◌↔◌, ◌⊎◌, ℕ, ◌+◌, List, [], ◌∷◌, ◌++◌, Bool, false, inl, inr, slice_set, length, length-set, take, ap, sym, ◌∙◌, subst, arith}
+use Rattle.std.proofs.Common.{◌↔◌, ◌⊎◌, ◌+◌, false, slice_set, length, length-set, take, ap, sym, ◌∙◌, subst, arith}
 use Rattle.clause_defs.specs.Clauses.{Lits}
 use Rattle.log_defs.specs.Logs.{IsIndexOf, all_clauses, clause_of_log}
 use Rattle.log_laws.proofs.LogLemmas.{length-all_clauses}
@@ -51,9 +51,9 @@ returns c =
     c.args.i c.reason-reason.result c.requires.evaluated running c.requires.derived.0 c.requires.derived.1 there index reason
     (omega (arith, c.mark.ensures.places, running.all_variables))
     (λ u.
-        let unset = marked-unset c.mark.new.marks.items v u (omega (arith, c.mark.ensures.places, running.all_variables)) in
-        let own = subst (λ (k : Lits). IsMarked c.mark.new.marks.items u ↔ (IsMarked c.self.inside.marks.items u ⊎ HasVariable k u)) c.clause.ensures.lits (c.mark.ensures.marks u) in (
-          λ m. let old = unset.0 m in (own.0 old.0, old.1),
-          λ m. unset.1 (own.1 m.0, m.1),
-        )) in
+    let unset = marked-unset c.mark.new.marks.items v u (omega (arith, c.mark.ensures.places, running.all_variables)) in
+    let own = subst (λ (k : Lits). IsMarked c.mark.new.marks.items u ↔ (IsMarked c.self.inside.marks.items u ⊎ HasVariable k u)) c.clause.ensures.lits (c.mark.ensures.marks u) in (
+      λ m. let old = unset.0 m in (own.0 old.0, old.1),
+      λ m. unset.1 (own.1 m.0, m.1),
+    )) in
     rw c.variable.ensures.variable (rw c.push_reserved.ensures.items record { running = after })

@@ -23,11 +23,11 @@ returns c =
     running_start c.args.e.now c.args.log.now c.args.start c.mark.new.marks.items c.requires.start c.requires.all_false
     (omega (arith, c.mark.ensures.places, c.fill.ensures.len, c.requires.room))
     (λ v.
-        let own = subst (λ (k : Lits). IsMarked c.mark.new.marks.items v ↔ (IsMarked c.fill.new.self.items v ⊎ HasVariable k v)) c.clause.ensures.lits (c.mark.ensures.marks v) in (
-          λ m. elim (own.0 m) [
-            | inl old ↦ absurd (none_marked (vec_len c.self.inside.marks) v (subst (λ (ms : List Bool). IsMarked ms v) none old))
-            | inr has ↦ has
-          ],
-          λ has. own.1 (inr has),
-        )) in
+    let own = subst (λ (k : Lits). IsMarked c.mark.new.marks.items v ↔ (IsMarked c.fill.new.self.items v ⊎ HasVariable k v)) c.clause.ensures.lits (c.mark.ensures.marks v) in (
+      λ m. elim (own.0 m) [
+        | inl old ↦ absurd (none_marked (vec_len c.self.inside.marks) v (subst (λ (ms : List Bool). IsMarked ms v) none old))
+        | inr has ↦ has
+      ],
+      λ has. own.1 (inr has),
+    )) in
     record { running = subst (λ (is : List ℕ). IsRunning c.args.e.now c.args.log.now c.mark.new.marks.items is (length c.args.e.now.order)) (sym items) running }

@@ -1,4 +1,4 @@
-use Rattle.std.proofs.Common.{rules, subst, sym, ap, length, arith}
+use Rattle.std.proofs.Common.{rules, subst, sym, arith}
 use Rattle.leaf_defs.specs.Evaluated.{Evaluated}
 use Rattle.leaf_chain.specs.Growing.{IsWithout}
 use Rattle.leaf_chain.proofs.PlaceLemmas.{room_for_one, places_more}

@@ -1,4 +1,4 @@
-use Rattle.std.proofs.Common.{length, ap, sym, arith}
+use Rattle.std.proofs.Common.{length, ap, arith}
 use Rattle.leaf_defs.specs.Evaluated.{Evaluated}
 use Rattle.chain_check.proofs.ClauseLists.{Has-get}
 use Rattle.leaf_chain.proofs.evaluation.Evaluation.variable.Goals as goal

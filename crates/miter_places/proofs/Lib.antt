@@ -1,3 +1,3 @@
 pub mod JoinedLemmas
-pub mod NumberLaws
 pub mod SizeLemmas
+pub mod NumberLaws

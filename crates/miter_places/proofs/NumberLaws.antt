@@ -1,5 +1,5 @@
 -- Each clause of the miter has the number that its part says.
-use Rattle.std.proofs.Common.{◌≡◌, ℕ, zero, suc, ◌+◌, ◌-◌, ◌<◌, ◌≤◌, List, [], ◌∷◌, ◌++◌, length, map, get_or, true, refl, sym, ◌∙◌, ap, arith, length-append}
+use Rattle.std.proofs.Common.{◌≡◌, ℕ, suc, ◌*◌, ◌+◌, ◌-◌, ◌<◌, List, [], ◌∷◌, ◌++◌, length, get_or, refl, ◌∙◌, ap, arith, length-append}
 use Rattle.std.proofs.lemmas.List.{get_or-map, get_or_append_left, get_or-append-add, length-map}
 use Rattle.std.proofs.Math.Seq.{get_or-append_seam}
 use Rattle.clause_defs.specs.Clauses.{Lits, clause_of}
@@ -9,7 +9,8 @@ use Rattle.cell_defs.specs.Cells.{CellsValue}
 use Rattle.miter_defs.specs.Numberings.{zero_variable, node_variable, row_variable}
 use Rattle.miter_defs.specs.Miters.{negative, cover_clauses, node_clauses, cell_clauses, output_clauses, circuit_clauses, some_difference, Miter}
 use Rattle.leaf_defs.specs.Evaluated.{clause_numbered}
-use Rattle.miter_places.specs.Places.{row_clauses, number_of_zero, first_of_node, first_of_row, first_of_cover, first_of_cell, first_of_output, number_of_last}
+use Rattle.miter_places.specs.Places.{row_clauses, number_of_zero, first_of_node, first_of_row, first_of_cover, first_of_cell, first_of_output, number_of_last, places_of}
+use Rattle.miter_places.proofs.SizeLemmas.{outputs_size}
 use Rattle.miter_places.proofs.JoinedLemmas.{joined_part, get_joined}
 
 module _ (net : Network) (cells : CellsValue) where
@@ -66,6 +67,7 @@ module _ (net : Network) (cells : CellsValue) where
       let longer = length-append ((zero ∷ nodes) ++ parts) outputs in
       get_or_append_left (circuit_clauses net cells) (some_difference net cells ∷ []) [] (1 + length nodes + i) (omega arith)
       ∙ get_or_append_left ((zero ∷ nodes) ++ parts) outputs [] (1 + length nodes + i) (omega arith)
+      ∙ ap (λ n. get_or ((zero ∷ nodes) ++ parts) n []) (let same : 1 + length nodes + i ≡ length (zero ∷ nodes) + i = omega arith in same)
       ∙ get_or-append-add (zero ∷ nodes) parts i []
 
   at_outputs : (i place : ℕ) → place ≡ 1 + length nodes + length parts + i → i < length outputs → get_or all place [] ≡ get_or outputs i []
@@ -149,3 +151,21 @@ module _ (net : Network) (cells : CellsValue) where
       let place : ℕ = length (circuit_clauses net cells) in
       numbered (number_of_last net cells) place (omega arith) (omega arith)
       ∙ ap clause_of (get_or-append_seam (circuit_clauses net cells) (some_difference net cells) [] [])
+
+  -- the clauses of the outputs and the last one stand at the end
+  pub length-from_outputs : length (Miter net cells).clauses ≡ first_of_output net cells 0 + 4 * length net.outputs
+  length-from_outputs = length-Miter ∙ omega (arith, outputs_size net cells (length net.outputs))
+
+  -- those of the cells before them
+  pub outputs-from_cells : first_of_output net cells 0 ≡ first_of_cell net cells 0 + length (joined (length cells.cells) (cell_clauses net cells))
+  outputs-from_cells = omega arith
+
+  -- and those of the nodes before all these
+  pub cells-from_nodes : first_of_cell net cells 0 ≡ first_of_node net (length net.nodes)
+  cells-from_nodes = omega arith
+
+-- places by their parts
+pub places_are : (net : Network) (cells : CellsValue) (firsts : List ℕ) (first second : ℕ) → firsts ≡ list_of (length net.nodes) (first_of_node net)
+    → first ≡ first_of_cell net cells 0 → second ≡ first_of_output net cells 0
+    → record { nodes = firsts; cells = first; outputs = second } ≡ places_of net cells
+places_are net cells firsts first second e f g = λ i. record { nodes = e i; cells = f i; outputs = g i }

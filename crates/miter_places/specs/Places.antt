@@ -1,6 +1,6 @@
 -- Where the clauses of each part of the two circuits begin in the miter. A clause's number is one more than the
 -- number of the clauses before it.
-use Rattle.std.specs.Prelude.{◌≡◌, ℕ, ◌+◌, ◌-◌, ◌*◌, ◌<◌, ◌≤◌, Bool, true, false, List, [], length, get_or}
+use Rattle.std.specs.Prelude.{ℕ, ◌+◌, Bool, true, false, List, length}
 use Rattle.blif_defs.specs.declared.mark.Mark.{Mark}
 use Rattle.blif_defs.specs.declared.mark.Mark.TheVariants.{Zero, One, Any}
 use Rattle.clause_defs.specs.Clauses.{Lits}

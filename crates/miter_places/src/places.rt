@@ -1,12 +1,15 @@
-ghost use Rattle.std.specs.Prelude.{◌≡◌, ◌+◌, ◌-◌, ◌^◌, ◌<◌, length, slice_index, IfOk};
+ghost use Rattle.std.specs.Prelude.{◌≡◌, ◌^◌, ◌<◌, ◌≤◌, length, slice_index, IfOk};
 ghost use Rattle.net_defs.specs.Networks.{Network};
+ghost use Rattle.net_defs.specs.Nets.{IsNet};
 ghost use Rattle.std.specs.List.{count_by};
-ghost use Rattle.fabric_defs.specs.Numbered.{list_of};
-ghost use Rattle.miter_defs.specs.Miters.{node_clauses, Miter};
-ghost use Rattle.miter_places.specs.Places.{is_asked, first_of_node, first_of_cell, first_of_output, places_of};
+ghost use Rattle.fabric_defs.specs.Numbered.{list_of, joined};
+ghost use Rattle.fabric_defs.specs.Geometries.{table_bits};
+ghost use Rattle.miter_defs.specs.Miters.{node_clauses, cell_clauses, Miter};
+ghost use Rattle.miter_places.specs.Places.{is_asked, first_of_node, places_of};
 
 use blif_read::Mark;
 use extract::Cells;
+use fabric::Geometry;
 use netlist::Net;
 use pch_base::NoMemory;
 use sat_values::ClauseSet;
@@ -51,8 +54,9 @@ impl Places {
         requires { formula.now ≡ Miter net.now cells.now }
         ensures { IfOk result (λ p. p ≡ places_of net.now cells.now) }
     {
+        let clauses = formula.len();
         let nodes = first_of_nodes(alloc, net)?;
-        let outputs = formula.len() - CLAUSES_OF_OUTPUT * net.outputs();
+        let outputs = clauses - CLAUSES_OF_OUTPUT * net.outputs();
         Ok(Places {
             nodes,
             cells: outputs - clauses_of_cells(cells),
@@ -100,6 +104,7 @@ fn first_of_nodes(alloc: Global, net: &Net) -> Result<Vec<u32>, AllocError>
 // How many clauses node `v` has: one for each mark that asks something and one for each row, and then one
 // for the node and one for each row.
 fn clauses_of_node(net: &Net, v: u32) -> u32
+    requires net { IsNet net.now }
     requires node { v < length net.now.nodes }
     requires few { length (node_clauses net.now v) < 2 ^ 32 }
     ensures { result ≡ length (node_clauses net.now v) }
@@ -122,8 +127,24 @@ fn asked(marks: &[Mark]) -> u32
 
 // How many clauses the cells have: those of the cone one for each bit of their tables.
 fn clauses_of_cells(cells: &Cells) -> u32
-    ensures { (net : Network) → result ≡ first_of_output net cells.now 0 - first_of_cell net cells.now 0 }
+    ensures { (net : Network) → result
+        ≡ length (joined (length cells.now.cells) (cell_clauses net cells.now)) }
 {
-    let inside = cells.cone().iter().filter(|flag| **flag).count() as u32;
-    inside * (1 << cells.geometry().pins())
+    count_flags(cells.cone()) as u32 * table_bits(cells.geometry())
+}
+
+// How many flags are true.
+fn count_flags(flags: &[bool]) -> usize
+    ensures count { result ≡ count_by (λ b. b) flags.now }
+    ensures few { result ≤ length flags.now }
+{
+    flags.iter().filter(|flag| **flag).count()
+}
+
+// How many bits a cell's table has: one for each list of bits at its pins.
+fn table_bits(g: Geometry) -> u32
+    ensures bits { result ≡ table_bits g }
+    ensures few { result ≤ 64 }
+{
+    1 << g.pins()
 }

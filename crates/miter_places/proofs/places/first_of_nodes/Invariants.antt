@@ -1,4 +1,4 @@
-use Rattle.std.proofs.Common.{◌≡◌, length}
+use Rattle.std.proofs.Common.{◌≡◌}
 use Rattle.fabric_defs.specs.Numbered.{list_of}
 use Rattle.miter_places.specs.Places.{first_of_node}
 use Rattle.miter_places.proofs.places.first_of_nodes.Given as goal

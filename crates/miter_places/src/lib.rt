@@ -6,4 +6,4 @@
 
 mod places;
 
-pub use places::Places;
+pub use places::{Places, asked};

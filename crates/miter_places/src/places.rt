@@ -117,8 +117,8 @@ fn clauses_of_node(net: &Net, v: u32) -> u32
     count
 }
 
-// How many marks ask something of their signals.
-fn asked(marks: &[Mark]) -> u32
+/// How many marks ask something of their signals.
+pub fn asked(marks: &[Mark]) -> u32
     requires { length marks.now < 2 ^ 32 }
     ensures { result ≡ count_by is_asked marks.now }
 {

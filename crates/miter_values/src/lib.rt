@@ -2,12 +2,14 @@
 //!
 //! Both circuits are evaluated in an order in which each variable comes after those that it depends on:
 //! the inputs and the one that is false, the nodes of the net in an order of evaluation with the rows of
-//! each before it, the cells of the cone by number, and the differences of the outputs. What is known on
-//! the way stands in `specs/Reached`.
+//! each before it, the cells of the cone by number, and the differences of the outputs.
+//!
+//! `specs/Growing` says how more variables get values, `specs/Parts` which variables belong to which
+//! part of the circuits.
 #![tactic(auto)]
 
-mod miter_values;
 mod nodes;
-mod parts;
+mod rows;
+mod values;
 
-pub use miter_values::MiterValues;
+pub use values::MiterValues;

@@ -1,0 +1,55 @@
+-- The clauses of the two circuits by their numbers.
+use Rattle.std.proofs.Common.{◌≡◌, ℕ, ◌+◌, ◌-◌, ◌<◌, ◌≤◌, List, [], ◌∷◌, ◌++◌, length, map, get_or, refl, sym, ◌∙◌, ap, arith, length-append}
+use Rattle.std.proofs.lemmas.List.{length-map, map-append, get_or_append_left}
+use Rattle.clause_defs.specs.Clauses.{Lits, clause_of}
+use Rattle.net_defs.specs.Networks.{Network, node_at}
+use Rattle.fabric_defs.specs.Numbered.{list_of, joined}
+use Rattle.cell_defs.specs.Cells.{CellsValue}
+use Rattle.miter_defs.specs.Numberings.{node_variable, row_variable}
+use Rattle.miter_defs.specs.Miters.{circuit_clauses, cover_clauses, node_clauses, cell_clauses, output_clauses, some_difference, Miter}
+use Rattle.leaf_defs.specs.Evaluated.{clause_numbered}
+use Rattle.miter_places.specs.Places.{row_clauses, number_of_zero, first_of_node, first_of_row, first_of_cover, first_of_cell, first_of_output, number_of_last}
+use Rattle.miter_places.proofs.JoinedLemmas.{joined_part, joined_fewer}
+use Rattle.miter_places.proofs.SizeLemmas.{node_size, node_within}
+use Rattle.miter_places.proofs.NumberLaws.{length-Miter, zero_clause, row_clause, cover_clause, cell_clause, output_clause}
+use Rattle.miter_values.specs.Parts.{circuits_of}
+
+module _ (net : Network) (cells : CellsValue) where
+  last : List Lits
+  last = map clause_of (some_difference net cells ∷ [])
+
+  -- the miter's clauses are these and one more
+  all_are : (Miter net cells).clauses ≡ circuits_of net cells ++ last
+  unfolding last
+  all_are = map-append clause_of (circuit_clauses net cells) (some_difference net cells ∷ [])
+
+  -- all numbers but the last are theirs
+  pub circuits-count : length (circuits_of net cells) + 1 ≡ number_of_last net cells
+  unfolding last
+  circuits-count =
+      let all = ap (λ (cs : List Lits). length cs) all_are in
+      omega (arith, length-Miter net cells, length-append (circuits_of net cells) last)
+
+  pub circuits_clause : (n : ℕ) → 1 ≤ n → n < number_of_last net cells → clause_numbered (circuits_of net cells) n ≡ clause_numbered (Miter net cells).clauses n
+  circuits_clause n low high =
+      let count = circuits-count in
+      sym (ap (λ (cs : List Lits). get_or cs (n - 1) []) all_are ∙ get_or_append_left (circuits_of net cells) last [] (n - 1) (omega arith))
+
+  -- the parts come one after another
+  nodes_end : first_of_node net (length net.nodes) ≤ number_of_last net cells
+  nodes_end = omega arith
+
+  cells_end : first_of_cell net cells (length cells.cells) ≤ number_of_last net cells
+  cells_end = omega arith
+
+  -- clause j of row r of node v
+  pub row_number : (v r j : ℕ) → v < length net.nodes → r < length (node_at net v).rows → j < length (row_clauses net v r)
+      → (first_of_row net v r + j ≤ length (circuits_of net cells))
+      × (clause_numbered (circuits_of net cells) (first_of_row net v r + j) ≡ clause_of (get_or (row_clauses net v r) j []))
+  row_number v r j lt row within =
+      let size = node_size net v in
+      let all = node_within net v lt in
+      let part = joined_part (length (node_at net v).rows) r (row_clauses net v) row in
+      let end = nodes_end in
+      let count = circuits-count in
+      (omega arith, circuits_clause (first_of_row net v r + j) (omega arith) (omega arith) ∙ row_clause net cells v r j lt row within)

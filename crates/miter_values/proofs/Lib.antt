@@ -1,0 +1,3 @@
+pub mod GrowLemmas
+pub mod RowLemmas
+pub mod ClauseNumbers

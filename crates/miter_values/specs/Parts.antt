@@ -1,0 +1,64 @@
+-- The parts of the two circuits of a miter, and their variables.
+use Rattle.std.specs.Prelude.{◌≡◌, ℕ, ◌+◌, ◌^◌, ◌<◌, ◌≤◌, ◌⊎◌, Bool, true, false, Option, Some, None, List, length, map, get_or}
+use Rattle.clause_defs.specs.Literals.{Literal}
+use Rattle.clause_defs.specs.Clauses.{Lits, Has, clause_of}
+use Rattle.net_defs.specs.Networks.{Network, node_at, signals}
+use Rattle.cell_defs.specs.Cells.{CellsValue}
+use Rattle.miter_defs.specs.Numberings.{zero_variable, signal_variable, node_variable, row_variable, cell_variable, difference_variable, variable_count}
+use Rattle.miter_defs.specs.Miters.{circuit_clauses}
+use Rattle.miter_cnf.specs.Numbered.{NumberingValue}
+use Rattle.miter_cnf.specs.Circuits.{Circuits, AreNumbered}
+use Rattle.leaf_defs.specs.Evaluated.{Evaluated, value_of, IsEvaluated}
+use Rattle.miter_places.specs.Places.{PlacesValue, places_of}
+use Rattle.miter_values.specs.Growing.{IsTrueIn, IsFalseIn}
+
+-- all clauses of the miter but the last
+abbrev pub circuits_of : Network → CellsValue → List Lits
+circuits_of net cells = map clause_of (circuit_clauses net cells)
+
+-- the numbers of the variables and of the clauses of two circuits
+pub record HaveNumbers (net : Network) (cells : CellsValue) (m : NumberingValue) (p : PlacesValue) : Type 0 where
+  pub numbered : AreNumbered net cells m
+  pub places : p ≡ places_of net cells
+  pub few : length (circuits_of net cells) < 2 ^ 32
+
+-- an evaluation by clauses of the two circuits, with a place for each variable
+pub record IsValued (c : Circuits) (e : Evaluated) : Type 0 where
+  pub evaluated : IsEvaluated (circuits_of c.net c.cells) e
+  pub places : length e.values ≡ variable_count c.net c.cells + 1
+
+-- all of these signals have a value
+abbrev pub AreKnown : Evaluated → List ℕ → Type 0
+AreKnown e ss = (s : ℕ) → Has ss s → Has e.order (signal_variable s)
+
+-- of the literals, all of which are known, either all are true, and there are so many; or the one at this place is false
+abbrev pub IsRowValue : Evaluated → Lits → Bool → ℕ → Type 0
+IsRowValue e asked true n = (n ≡ length asked) × ((l : Literal) → Has asked l → IsTrueIn e l)
+IsRowValue e asked false n = (n < length asked) × ((d : Literal) → IsFalseIn e (get_or asked n d))
+
+-- a variable of the first rows of node v
+abbrev pub IsRowOf : Network → ℕ → ℕ → ℕ → Type 0
+IsRowOf net v rows u = (row_variable net v 0 ≤ u) × (u < row_variable net v rows)
+
+-- a variable of node v or of its rows
+abbrev pub IsOfNode : Network → ℕ → ℕ → Type 0
+IsOfNode net v u = IsRowOf net v (length (node_at net v).rows) u ⊎ (u ≡ node_variable net v)
+
+-- a variable of one of these nodes, or of a row of it
+abbrev pub IsOfNodes : Network → List ℕ → ℕ → Type 0
+IsOfNodes net nodes u = (v : ℕ) × Has nodes v × IsOfNode net v u
+
+-- one of the first rows of node v hits, if a row is named, and else none does
+abbrev pub IsHit : Network → ℕ → Evaluated → ℕ → Option ℕ → Type 0
+IsHit net v e rows (Some r) = (r < rows) × (value_of e.values (row_variable net v r) ≡ true)
+IsHit net v e rows None = (r : ℕ) → r < rows → value_of e.values (row_variable net v r) ≡ false
+
+-- row r is the latest that hits, if it does
+abbrev pub later : Option ℕ → ℕ → Bool → Option ℕ
+later hit r true = Some r
+later hit r false = hit
+
+-- which of the clauses of a node itself gives it its value
+abbrev pub cover_place : Option ℕ → ℕ
+cover_place (Some r) = r + 1
+cover_place None = 0

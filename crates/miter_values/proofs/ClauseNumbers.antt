@@ -6,11 +6,15 @@ use Rattle.net_defs.specs.Networks.{Network, node_at}
 use Rattle.fabric_defs.specs.Numbered.{list_of, joined}
 use Rattle.cell_defs.specs.Cells.{CellsValue}
 use Rattle.miter_defs.specs.Numberings.{node_variable, row_variable}
-use Rattle.miter_defs.specs.Miters.{circuit_clauses, cover_clauses, node_clauses, cell_clauses, output_clauses, some_difference, Miter}
+use Rattle.miter_defs.specs.Miters.{literal, negative, row_at, circuit_clauses, cover_clauses, node_clauses, cell_clauses, output_clauses, some_difference, Miter}
 use Rattle.leaf_defs.specs.Evaluated.{clause_numbered}
-use Rattle.miter_places.specs.Places.{row_clauses, number_of_zero, first_of_node, first_of_row, first_of_cover, first_of_cell, first_of_output, number_of_last}
+use Rattle.miter_places.specs.Places.{is_asked, row_clauses, number_of_zero, first_of_node, first_of_row, first_of_cover, first_of_cell, first_of_output, number_of_last}
 use Rattle.miter_places.proofs.JoinedLemmas.{joined_part, joined_fewer}
-use Rattle.miter_places.proofs.SizeLemmas.{node_size, node_within}
+use Rattle.miter_places.proofs.SizeLemmas.{node_size, node_within, row_counted}
+use Rattle.fabric_laws.proofs.NumberedLemmas.{length-list_of, joined-more}
+use Rattle.std.specs.List.{count_by}
+use Rattle.blif_defs.specs.declared.mark.Mark.{Mark}
+use Rattle.net_defs.specs.Nets.{IsNet}
 use Rattle.miter_places.proofs.NumberLaws.{length-Miter, zero_clause, row_clause, cover_clause, cell_clause, output_clause}
 use Rattle.miter_values.specs.Parts.{circuits_of}
 
@@ -53,3 +57,42 @@ module _ (net : Network) (cells : CellsValue) where
       let end = nodes_end in
       let count = circuits-count in
       (omega arith, circuits_clause (first_of_row net v r + j) (omega arith) (omega arith) ∙ row_clause net cells v r j lt row within)
+
+  -- clause j of node v itself
+  pub cover_number : (v j : ℕ) → v < length net.nodes → j ≤ length (node_at net v).rows
+      → (first_of_cover net v + j ≤ length (circuits_of net cells))
+      × (clause_numbered (circuits_of net cells) (first_of_cover net v + j)
+      ≡ clause_of (get_or (cover_clauses (node_variable net v) (node_at net v).on (list_of (length (node_at net v).rows) (row_variable net v))) j []))
+  cover_number v j lt within =
+      let hits : List ℕ = list_of (length (node_at net v).rows) (row_variable net v) in
+      let many = length-map hits (λ hit. literal (node_variable net v) (node_at net v).on ∷ negative hit ∷ []) in
+      let listed = length-list_of (length (node_at net v).rows) (row_variable net v) in
+      let size = node_size net v in
+      let all = node_within net v lt in
+      let end = nodes_end in
+      let count = circuits-count in
+      (omega arith, circuits_clause (first_of_cover net v + j) (omega arith) (omega arith) ∙ cover_clause net cells v j lt (omega arith))
+
+  -- a node has no more rows than there are clauses
+  pub rows_few : (v : ℕ) → v < length net.nodes → length (node_at net v).rows < length (circuits_of net cells)
+  rows_few v lt =
+      let size = node_size net v in
+      let all = node_within net v lt in
+      let end = nodes_end in
+      let count = circuits-count in omega arith
+
+  -- the number behind a row is that of the next one
+  pub row_next : (v r number asked : ℕ) (marks : List Mark) → IsNet net → v < length net.nodes → r < length (node_at net v).rows
+      → number ≡ first_of_row net v r → asked ≡ count_by is_asked marks → marks ≡ row_at net v r
+      → (number + asked + 1 ≡ first_of_row net v (r + 1)) × (number + asked + 1 ≤ length (circuits_of net cells))
+  row_next v r number asked marks n lt row at is same =
+      let own = row_counted net v r n lt row in
+      let marks_are = ap (λ (m : List Mark). count_by is_asked m) same in
+      let more = ap (λ (cs : List Lits). length cs) (joined-more r (row_clauses net v)) in
+      let both = length-append (joined r (row_clauses net v)) (row_clauses net v r) in
+      let part = joined_part (length (node_at net v).rows) r (row_clauses net v) row in
+      let size = node_size net v in
+      let all = node_within net v lt in
+      let end = nodes_end in
+      let count = circuits-count in
+      (omega arith, omega arith)

@@ -133,3 +133,12 @@ false_grows f a b news l p h = record { known = (p.known l.variable).1 (inl h.kn
 
 pub true_grows : (f : List Lits) (a b : Evaluated) (news : ℕ → Type 0) (l : Literal) → Grows f a b news → IsTrueIn a l → IsTrueIn b l
 true_grows f a b news l p h = record { known = (p.known l.variable).1 (inl h.known); value = p.values l.variable h.known ∙ h.value }
+
+-- the same where the evaluation and the variable are told by equations
+pub grows_by : (f : List Lits) (e after : Evaluated) (v w number : ℕ) (value : Bool) → after ≡ with_implied e w value number → w ≡ v
+    → IsEvaluated f e → IsWithout e v → 1 ≤ number → number ≤ length f → IsForced e (literal v value) (clause_numbered f number)
+    → Grows f e after (λ u. u ≡ v) × (value_of after.values v ≡ value)
+grows_by f e after v w number value is same evaluated without low high forced =
+    let all : after ≡ with_implied e v value number = is ∙ ap (λ x. with_implied e x value number) same in
+    subst (λ (a : Evaluated). Grows f e a (λ u. u ≡ v) × (value_of a.values v ≡ value)) (sym all)
+    (grows_implied f e v number value evaluated without low high forced, implied_value f e v number value evaluated without low high forced)

@@ -1,3 +1,4 @@
 pub mod GrowLemmas
 pub mod RowLemmas
 pub mod ClauseNumbers
+pub mod NodeLemmas

@@ -1,5 +1,6 @@
 -- What a row asks, and the clause that gives it its value.
 use Rattle.std.proofs.Common.{◌≡◌, ◌≢◌, ℕ, zero, suc, ◌+◌, ◌<◌, ◌≤◌, ◌⊎◌, inl, inr, Bool, true, false, not, List, [], ◌∷◌, ◌++◌, length, map, get_or, take, refl, sym, ◌∙◌, ap, subst, arith, length-append}
+use Rattle.std.proofs.Math.Bool.{beq}
 use Rattle.std.proofs.lemmas.List.{length-map, get_or-map, get_or_append_left, get_or-append-add, append-nil, take_all}
 use Rattle.std.proofs.Math.Seq.{get_or-append_seam}
 use Rattle.blif_defs.specs.declared.mark.Mark.{Mark}
@@ -177,3 +178,16 @@ asked_false e ss i m l value lt known one read other = record {
   known = asked_known e ss i m l lt known one;
   value = sym read ∙ differs value l.positive other;
 }
+
+-- what the test of a value against a sign says
+pub not_equal : (a b : Bool) → not (beq a b) ≡ true → a ≢ b
+not_equal true true e h = cc
+not_equal true false e h = cc
+not_equal false true e h = cc
+not_equal false false e h = cc
+
+pub equal : (a b : Bool) → not (beq a b) ≡ false → a ≡ b
+equal true true e = refl
+equal true false e = absurd (cc)
+equal false true e = absurd (cc)
+equal false false e = refl

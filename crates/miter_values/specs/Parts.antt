@@ -1,5 +1,5 @@
 -- The parts of the two circuits of a miter, and their variables.
-use Rattle.std.specs.Prelude.{◌≡◌, ℕ, ◌+◌, ◌^◌, ◌<◌, ◌≤◌, ◌⊎◌, Bool, true, false, Option, Some, None, List, length, map, get_or}
+use Rattle.std.specs.Prelude.{◌≡◌, ℕ, ◌+◌, ◌^◌, ◌<◌, ◌≤◌, ◌⊎◌, Bool, true, false, not, Option, Some, None, List, length, map, get_or}
 use Rattle.clause_defs.specs.Literals.{Literal}
 use Rattle.clause_defs.specs.Clauses.{Lits, Has, clause_of}
 use Rattle.net_defs.specs.Networks.{Network, node_at, signals}
@@ -62,3 +62,8 @@ later hit r false = hit
 abbrev pub cover_place : Option ℕ → ℕ
 cover_place (Some r) = r + 1
 cover_place None = 0
+
+-- the value of a node with this sign
+abbrev pub node_value : Bool → Option ℕ → Bool
+node_value on (Some r) = on
+node_value on None = not on

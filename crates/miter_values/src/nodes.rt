@@ -5,7 +5,7 @@ ghost use Rattle.clause_defs.specs.Clauses.{Has};
 ghost use Rattle.net_defs.specs.Networks.{node_at};
 ghost use Rattle.leaf_defs.specs.Evaluated.{IsEvaluated};
 ghost use Rattle.miter_values.specs.Growing.{Grows};
-ghost use Rattle.miter_values.specs.Parts.{circuits_of, IsValued, AreKnown, IsOfNode, cover_place};
+ghost use Rattle.miter_values.specs.Parts.{circuits_of, IsValued, AreKnown, IsOfNode, cover_place, node_value};
 
 use crate::values::MiterValues;
 use leaf_chain::Evaluation;
@@ -21,6 +21,16 @@ fn place_of(hit: Option<u32>) -> u32
     }
 }
 
+/// The value of a node with this sign, where this row hits, or none does.
+fn node_value(on: bool, hit: Option<u32>) -> bool
+    ensures { result ≡ node_value on hit }
+{
+    match hit {
+        Some(_) => on,
+        None => !on,
+    }
+}
+
 impl<'a> MiterValues<'a> {
     /// Gives node `v` and its rows their values: the node has its sign where a row hits.
     pub(crate) fn evaluate_node(&self, v: u32, e: &mut Evaluation)
@@ -32,7 +42,7 @@ impl<'a> MiterValues<'a> {
     {
         let rows = self.evaluate_rows(v, e);
         let numbering = &self.numbering;
-        let value = self.net.on(v) == rows.hit.is_some();
+        let value = node_value(self.net.on(v), rows.hit);
         e.imply(numbering.node(v), value, rows.next + place_of(rows.hit));
     }
 }

@@ -21,7 +21,7 @@ place_in (y ∷ ys) x (inl e) = (0, omega arith, e)
 place_in (y ∷ ys) x (inr h) = let rest = place_in ys x h in (suc rest.0, let lt = rest.1 in omega arith, rest.2)
 
 -- a member of the first n stands below n
-place_in_take : (xs : List ℕ) (n : ℕ) (x : ℕ) → Has (take n xs) x → (i : ℕ) × (i < n) × (i < length xs) × (get_or xs i 0 ≡ x)
+pub place_in_take : (xs : List ℕ) (n : ℕ) (x : ℕ) → Has (take n xs) x → (i : ℕ) × (i < n) × (i < length xs) × (get_or xs i 0 ≡ x)
 place_in_take xs zero x h = absurd h
 place_in_take [] (suc n) x h = absurd h
 place_in_take (y ∷ ys) (suc n) x (inl e) = (0, omega arith, omega arith, e)

@@ -1,7 +1,12 @@
 -- The values of a node's rows and of the node.
-use Rattle.std.proofs.Common.{◌≡◌, ℕ, zero, suc, ◌+◌, ◌<◌, ◌≤◌, ◌↔◌, ◌⊎◌, inl, inr, Bool, true, false, not, Option, Some, None, List, [], ◌∷◌, ◌++◌, length, map, get_or, take, sum_by, refl, sym, ◌∙◌, ap, subst, arith, add-one}
+use Rattle.std.proofs.Common.{◌≡◌, ℕ, zero, suc, ◌+◌, ◌-◌, ◌<◌, ◌≤◌, ◌↔◌, ◌⊎◌, inl, inr, Bool, true, false, not, Option, Some, None, List, [], ◌∷◌, ◌++◌, length, map, get_or, take, sum_by, refl, sym, ◌∙◌, ap, subst, arith, add-one}
 use Rattle.std.proofs.lemmas.Bool.{cases_lt}
-use Rattle.std.proofs.lemmas.List.{get_or-map, length-map}
+use Rattle.std.proofs.lemmas.List.{get_or-map, length-map, get_or_default, take_all}
+use Rattle.pch_base.proofs.SetLemmas.{Contains-Has}
+use Rattle.chain_check.proofs.ClauseLists.{Has-take_more}
+use Rattle.cell_laws.proofs.SourceBits.{All-Has}
+use Rattle.net_defs.specs.Orders.{IsKnown, IsOrder}
+use Rattle.leaf_chain.proofs.RunningLemmas.{place_in_take}
 use Rattle.std.proofs.lemmas.List.Sums.{sum_by_more_le, sum_by-take-le, sum_by_more}
 use Rattle.blif_defs.specs.declared.mark.Mark.{Mark}
 use Rattle.clause_defs.specs.Literals.{Literal}
@@ -16,7 +21,7 @@ use Rattle.miter_defs.specs.Miters.{literal, positive, negative, row_at, row_lit
 use Rattle.leaf_defs.specs.Evaluated.{Evaluated, value_of, clause_numbered}
 use Rattle.miter_places.specs.Places.{row_clauses, first_of_row, first_of_cover}
 use Rattle.miter_values.specs.Growing.{IsTrueIn, IsFalseIn, IsForced, Grows}
-use Rattle.miter_values.specs.Parts.{circuits_of, IsRowValue, IsRowOf, IsHit, IsOfNode, later, cover_place, node_value}
+use Rattle.miter_values.specs.Parts.{circuits_of, AreKnown, IsRowValue, IsRowOf, IsHit, IsOfNode, IsOfNodes, IsOfSomeNode, later, cover_place, node_value}
 use Rattle.miter_values.proofs.GrowLemmas.{forced_set}
 use Rattle.miter_values.proofs.RowLemmas.{forced_row}
 use Rattle.miter_values.proofs.ClauseNumbers.{row_number, cover_number}
@@ -134,3 +139,103 @@ cover_step net cells v next e hit lt at h known =
       (forced_set e l
       (get_or (cover_clauses (node_variable net v) (node_at net v).on (list_of (length (node_at net v).rows) (row_variable net v))) (cover_place hit) []) forced.1),
     )
+
+-- ---- all nodes
+
+-- later nodes have later rows
+rows_up : (net : Network) (w d : ℕ) → w + d ≤ length net.nodes → rows_before net w ≤ rows_before net (w + d)
+rows_up net w zero le = let same = ap (rows_before net) (let e : w ≡ w + 0 = omega arith in e) in omega arith
+rows_up net w (suc d) le =
+    let rest = rows_up net w d (omega arith) in
+    let more = sum_by_more (λ (node : Node). length node.rows) net.nodes (w + d) no_node (omega arith) in
+    let same = ap (rows_before net) (let e : w + d + 1 ≡ w + suc d = omega arith in e) in
+    omega arith
+
+-- the rows of a node come before those of a later one
+rows_apart : (net : Network) (w v : ℕ) → w < v → v ≤ length net.nodes → rows_before net w + length (node_at net w).rows ≤ rows_before net v
+rows_apart net w v lt le =
+    let up = rows_up net (w + 1) (v - (w + 1)) (omega arith) in
+    let more = sum_by_more (λ (node : Node). length node.rows) net.nodes w no_node (omega arith) in
+    let same = ap (rows_before net) (let e : w + 1 + (v - (w + 1)) ≡ v = omega arith in e) in
+    omega arith
+
+-- no variable is of two nodes
+pub nodes_apart : (net : Network) (w v u : ℕ) → w < length net.nodes → v < length net.nodes → IsOfNode net w u → IsOfNode net v u → w ≡ v
+nodes_apart net w v u w_lt v_lt (inl p) (inl q) =
+    let low = p.0 in let high = p.1 in let from = q.0 in let to = q.1 in
+    elim (cases_lt w v) [
+      | inl less ↦ let apart = rows_apart net w v less (omega arith) in absurd (omega arith)
+      | inr past ↦ elim (cases_lt v w) [
+        | inl less ↦ let apart = rows_apart net v w less (omega arith) in absurd (omega arith)
+        | inr other ↦ omega arith
+      ]
+    ]
+nodes_apart net w v u w_lt v_lt (inl p) (inr q) = let low = p.0 in absurd (omega arith)
+nodes_apart net w v u w_lt v_lt (inr p) (inl q) = let low = q.0 in absurd (omega arith)
+nodes_apart net w v u w_lt v_lt (inr p) (inr q) = omega arith
+
+-- the variables of a node stand behind those of the inputs
+node_low : (net : Network) (v u : ℕ) → IsOfNode net v u → 2 + length net.inputs ≤ u
+node_low net v u (inl p) = let low = p.0 in omega arith
+node_low net v u (inr p) = omega arith
+
+module _ (net : Network) (order : List ℕ) (f : List Lits) (before e : Evaluated) (j v : ℕ) (is_order : IsOrder net order) (lt : j < length order)
+    (v_is : v ≡ get_or order j 0) (grows : Grows f before e (IsOfNodes net (take j order)))
+    (inputs : (i : ℕ) → i < length net.inputs → Has before.order (signal_variable i))
+    (fresh : (u : ℕ) → Has before.order u → u < 2 + length net.inputs) where
+  -- it is a node
+  pub order_within : v < length net.nodes
+  order_within = let within = is_order.nodes.within j 0 lt in omega arith
+
+  -- its fan-ins have values
+  pub order_known : AreKnown e (node_at net v).fan_ins
+  order_known s here =
+      let all = is_order.after j lt in
+      let own = All-Has (IsKnown net (take j order)) (node_at net (get_or order j 0)).fan_ins s all
+      (subst (λ n. Has (node_at net n).fan_ins s) v_is here) in
+      elim (cases_lt s (length net.inputs)) [
+        | inl input ↦ (grows.known (signal_variable s)).1 (inl (inputs s input))
+        | inr past ↦ elim own [
+          | inl input ↦ absurd (omega arith)
+          | inr node ↦ (grows.known (signal_variable s)).1
+              (inr (s - length net.inputs, Contains-Has (take j order) (s - length net.inputs) node, inr (omega arith)))
+        ]
+      ]
+
+  -- and it and its rows have none
+  pub order_fresh : (u : ℕ) → Has e.order u → IsOfNode net v u → ⊥
+  order_fresh u here own = elim ((grows.known u).0 here) [
+    | inl old ↦ let less = fresh u old in let low = node_low net v u own in absurd (omega arith)
+    | inr other ↦
+        let at = place_in_take order j other.0 other.1 in
+        let within = is_order.nodes.within at.0 0 at.2 in
+        let w_is = at.3 in
+        let less = at.1 in
+        let same = nodes_apart net other.0 v u (omega arith) order_within other.2 own in
+        let many = is_order.nodes.as_many in
+        is_order.nodes.distinct at.0 j less (omega arith) (w_is ∙ same ∙ v_is)
+  ]
+
+-- one node more
+pub nodes_more : (net : Network) (order : List ℕ) (j v u : ℕ) → j < length order → v ≡ get_or order j 0
+    → IsOfNodes net (take (j + 1) order) u ↔ (IsOfNodes net (take j order) u ⊎ IsOfNode net v u)
+nodes_more net order j v u lt v_is = (
+  λ h. elim ((Has-take_more order j v h.0 lt (v_is ∙ get_or_default order j 0 v lt)).0 h.1) [
+    | inl old ↦ inl (h.0, old, h.2)
+    | inr same ↦ inr (subst (λ w. IsOfNode net w u) (sym same) h.2)
+  ],
+  λ h. elim h [
+    | inl old ↦ (old.0, (Has-take_more order j v old.0 lt (v_is ∙ get_or_default order j 0 v lt)).1 (inl old.1), old.2)
+    | inr own ↦ (v, (Has-take_more order j v v lt (v_is ∙ get_or_default order j 0 v lt)).1 (inr refl), own)
+  ],
+)
+
+-- all nodes of an order are all nodes
+pub nodes_all : (net : Network) (order : List ℕ) (j u : ℕ) → IsOrder net order → length order ≤ j → IsOfSomeNode net u ↔ IsOfNodes net (take j order) u
+nodes_all net order j u is_order le = (
+  λ h. (h.0, subst (λ (xs : List ℕ). Has xs h.0) (sym (take_all j order le)) (Contains-Has order h.0 (is_order.nodes.complete h.0 h.1)), h.2),
+  λ h.
+      let at = place_in_take order j h.0 h.1 in
+      let within = is_order.nodes.within at.0 0 at.2 in
+      let same = at.3 in (h.0, omega arith, h.2),
+)

@@ -1,10 +1,14 @@
 -- The parts of the two circuits of a miter, and their variables.
-use Rattle.std.specs.Prelude.{◌≡◌, ℕ, ◌+◌, ◌^◌, ◌<◌, ◌≤◌, ◌⊎◌, Bool, true, false, not, Option, Some, None, List, length, map, get_or}
+use Rattle.std.specs.Prelude.{◌≡◌, ℕ, ◌+◌, ◌^◌, ◌<◌, ◌≤◌, ◌⊎◌, Bool, true, false, not, Option, Some, None, List, length, map, get_or, All}
 use Rattle.clause_defs.specs.Literals.{Literal}
 use Rattle.clause_defs.specs.Clauses.{Lits, Has, clause_of}
 use Rattle.net_defs.specs.Networks.{Network, node_at, signals}
-use Rattle.cell_defs.specs.Cells.{CellsValue}
-use Rattle.miter_defs.specs.Numberings.{zero_variable, signal_variable, node_variable, row_variable, cell_variable, difference_variable, variable_count}
+use Rattle.fabric_defs.specs.Geometries.{cell_count}
+use Rattle.cell_defs.specs.declared.source.Source.{Source}
+use Rattle.cell_defs.specs.declared.source.Source.TheVariants.{Cell}
+use Rattle.cell_defs.specs.Cones.{in_cone}
+use Rattle.cell_defs.specs.Cells.{CellsValue, IsSourceBelow}
+use Rattle.miter_defs.specs.Numberings.{zero_variable, signal_variable, node_variable, row_variable, cell_variable, difference_variable, variable_count, source_variable}
 use Rattle.miter_defs.specs.Miters.{circuit_clauses}
 use Rattle.miter_cnf.specs.Numbered.{NumberingValue}
 use Rattle.miter_cnf.specs.Circuits.{Circuits, AreNumbered}
@@ -48,6 +52,10 @@ IsOfNode net v u = IsRowOf net v (length (node_at net v).rows) u ⊎ (u ≡ node
 abbrev pub IsOfNodes : Network → List ℕ → ℕ → Type 0
 IsOfNodes net nodes u = (v : ℕ) × Has nodes v × IsOfNode net v u
 
+-- a variable of some node, or of a row of it
+abbrev pub IsOfSomeNode : Network → ℕ → Type 0
+IsOfSomeNode net u = (v : ℕ) × (v < length net.nodes) × IsOfNode net v u
+
 -- one of the first rows of node v hits, if a row is named, and else none does
 abbrev pub IsHit : Network → ℕ → Evaluated → ℕ → Option ℕ → Type 0
 IsHit net v e rows (Some r) = (r < rows) × (value_of e.values (row_variable net v r) ≡ true)
@@ -67,3 +75,25 @@ cover_place None = 0
 abbrev pub node_value : Bool → Option ℕ → Bool
 node_value on (Some r) = on
 node_value on None = not on
+
+-- the bit of a value
+abbrev pub bit_of : Bool → ℕ
+bit_of true = 1
+bit_of false = 0
+
+-- the bit of what a pin or an output pad listens to
+abbrev pub source_value : Network → CellsValue → Evaluated → Source → ℕ
+source_value net cells e source = bit_of (value_of e.values (source_variable net cells source))
+
+-- the variables of the cells of the cone below k
+abbrev pub IsOfCells : Network → CellsValue → ℕ → ℕ → Type 0
+IsOfCells net cells k u = (cell_variable net cells 0 ≤ u) × (u < cell_variable net cells k)
+
+-- what these listen to has a value
+abbrev pub HaveValues : Circuits → Evaluated → List Source → Type 0
+HaveValues c e sources = (source : Source) → Has sources source → Has e.order (source_variable c.net c.cells source)
+
+-- they listen to pads of the fabric and to cells of the cone
+pub record AreInside (c : Circuits) (sources : List Source) : Type 0 where
+  pub below : All (IsSourceBelow c.cells.geometry.input_pads (cell_count c.cells.geometry)) sources
+  pub inside : (k : ℕ) → Has sources (Cell k) → in_cone c.cells k ≡ true

@@ -9,6 +9,7 @@
 #![tactic(auto)]
 
 mod nodes;
+mod parts;
 mod rows;
 mod values;
 

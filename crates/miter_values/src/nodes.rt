@@ -1,11 +1,11 @@
 //! The values of the net's nodes.
 
-ghost use Rattle.std.specs.Prelude.{◌≡◌, ℕ, ◌^◌, ◌<◌, length};
+ghost use Rattle.std.specs.Prelude.{◌≡◌, ℕ, ◌+◌, ◌^◌, ◌<◌, length};
 ghost use Rattle.clause_defs.specs.Clauses.{Has};
 ghost use Rattle.net_defs.specs.Networks.{node_at};
-ghost use Rattle.leaf_defs.specs.Evaluated.{IsEvaluated};
+ghost use Rattle.miter_defs.specs.Numberings.{signal_variable};
 ghost use Rattle.miter_values.specs.Growing.{Grows};
-ghost use Rattle.miter_values.specs.Parts.{circuits_of, IsValued, AreKnown, IsOfNode, cover_place, node_value};
+ghost use Rattle.miter_values.specs.Parts.{circuits_of, IsValued, AreKnown, IsOfNode, IsOfSomeNode, cover_place, node_value};
 
 use crate::values::MiterValues;
 use leaf_chain::Evaluation;
@@ -44,5 +44,17 @@ impl<'a> MiterValues<'a> {
         let numbering = &self.numbering;
         let value = node_value(self.net.on(v), rows.hit);
         e.imply(numbering.node(v), value, rows.next + place_of(rows.hit));
+    }
+
+    /// Gives all nodes and rows their values, where the inputs have theirs.
+    pub(crate) fn evaluate_nodes(&self, e: &mut Evaluation)
+        requires valued { IsValued self.now e.old }
+        requires inputs { (i : ℕ) → i < length self.now.net.inputs → Has e.old.order (signal_variable i) }
+        requires fresh { (u : ℕ) → Has e.old.order u → u < 2 + length self.now.net.inputs }
+        ensures { Grows (circuits_of self.now.net self.now.cells) e.old e.new (IsOfSomeNode self.now.net) }
+    {
+        for v in self.net.order() {
+            self.evaluate_node(*v, e);
+        }
     }
 }

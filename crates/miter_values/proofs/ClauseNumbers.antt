@@ -1,17 +1,19 @@
 -- The clauses of the two circuits by their numbers.
-use Rattle.std.proofs.Common.{◌≡◌, ℕ, ◌+◌, ◌-◌, ◌<◌, ◌≤◌, List, [], ◌∷◌, ◌++◌, length, map, get_or, refl, sym, ◌∙◌, ap, arith, length-append}
+use Rattle.std.proofs.Common.{◌≡◌, ℕ, ◌+◌, ◌-◌, ◌<◌, ◌≤◌, true, false, List, [], ◌∷◌, ◌++◌, length, map, get_or, refl, sym, ◌∙◌, ap, arith, length-append}
 use Rattle.std.proofs.lemmas.List.{length-map, map-append, get_or_append_left}
 use Rattle.clause_defs.specs.Clauses.{Lits, clause_of}
 use Rattle.net_defs.specs.Networks.{Network, node_at}
 use Rattle.fabric_defs.specs.Numbered.{list_of, joined}
 use Rattle.cell_defs.specs.Cells.{CellsValue}
 use Rattle.miter_defs.specs.Numberings.{node_variable, row_variable}
-use Rattle.miter_defs.specs.Miters.{literal, negative, row_at, circuit_clauses, cover_clauses, node_clauses, cell_clauses, output_clauses, some_difference, Miter}
+use Rattle.miter_defs.specs.Miters.{literal, negative, row_at, circuit_clauses, cover_clauses, node_clauses, table_clause, cell_clauses, output_clauses, some_difference, Miter}
 use Rattle.leaf_defs.specs.Evaluated.{clause_numbered}
 use Rattle.miter_places.specs.Places.{is_asked, row_clauses, number_of_zero, first_of_node, first_of_row, first_of_cover, first_of_cell, first_of_output, number_of_last}
 use Rattle.miter_places.proofs.JoinedLemmas.{joined_part, joined_fewer}
 use Rattle.miter_places.proofs.SizeLemmas.{node_size, node_within, row_counted}
-use Rattle.fabric_laws.proofs.NumberedLemmas.{length-list_of, joined-more}
+use Rattle.fabric_laws.proofs.NumberedLemmas.{length-list_of, get_or-list_of, joined-more}
+use Rattle.fabric_defs.specs.Geometries.{table_bits}
+use Rattle.cell_defs.specs.Cones.{in_cone}
 use Rattle.std.specs.List.{count_by}
 use Rattle.blif_defs.specs.declared.mark.Mark.{Mark}
 use Rattle.net_defs.specs.Nets.{IsNet}
@@ -96,3 +98,41 @@ module _ (net : Network) (cells : CellsValue) where
       let end = nodes_end in
       let count = circuits-count in
       (omega arith, omega arith)
+
+  -- the clause of a bit of the table of cell k, which is in the cone
+  pub cell_number : (k word : ℕ) → k < length cells.cells → in_cone cells k ≡ true → word < table_bits cells.geometry
+      → (first_of_cell net cells k + word ≤ length (circuits_of net cells))
+      × (clause_numbered (circuits_of net cells) (first_of_cell net cells k + word) ≡ clause_of (table_clause net cells k word))
+  cell_number k word lt inside within =
+      let listed : cell_clauses net cells k ≡ list_of (table_bits cells.geometry) (table_clause net cells k) = rw inside refl in
+      let many = ap (λ (cs : List Lits). length cs) listed in
+      let size = length-list_of (table_bits cells.geometry) (table_clause net cells k) in
+      let part = joined_part (length cells.cells) k (cell_clauses net cells) lt in
+      let end = cells_end in
+      let count = circuits-count in
+      let own : word < length (cell_clauses net cells k) = omega arith in
+      (omega arith,
+      circuits_clause (first_of_cell net cells k + word) (omega arith) (omega arith) ∙ cell_clause net cells k word lt own
+      ∙ ap clause_of (ap (λ (cs : List Lits). get_or cs word []) listed ∙ get_or-list_of (table_bits cells.geometry) (table_clause net cells k) word [] within))
+
+  -- the clauses of the cells so far, and of one more
+  pub cell_next : (k number : ℕ) → k < length cells.cells → number ≡ first_of_cell net cells k → in_cone cells k ≡ true
+      → (number + table_bits cells.geometry ≡ first_of_cell net cells (k + 1)) × (number + table_bits cells.geometry ≤ length (circuits_of net cells))
+  cell_next k number lt at inside =
+      let listed : cell_clauses net cells k ≡ list_of (table_bits cells.geometry) (table_clause net cells k) = rw inside refl in
+      let many = ap (λ (cs : List Lits). length cs) listed in
+      let size = length-list_of (table_bits cells.geometry) (table_clause net cells k) in
+      let part = joined_part (length cells.cells) k (cell_clauses net cells) lt in
+      let more = ap (λ (cs : List Lits). length cs) (joined-more k (cell_clauses net cells)) in
+      let both = length-append (joined k (cell_clauses net cells)) (cell_clauses net cells k) in
+      let end = cells_end in
+      let count = circuits-count in
+      (omega arith, omega arith)
+
+  pub cell_none : (k number : ℕ) → number ≡ first_of_cell net cells k → in_cone cells k ≡ false → number ≡ first_of_cell net cells (k + 1)
+  cell_none k number at outside =
+      let listed : cell_clauses net cells k ≡ [] = rw outside refl in
+      let many = ap (λ (cs : List Lits). length cs) listed in
+      let more = ap (λ (cs : List Lits). length cs) (joined-more k (cell_clauses net cells)) in
+      let both = length-append (joined k (cell_clauses net cells)) (cell_clauses net cells k) in
+      omega arith

@@ -2,3 +2,4 @@ pub mod GrowLemmas
 pub mod RowLemmas
 pub mod ClauseNumbers
 pub mod NodeLemmas
+pub mod CellLemmas

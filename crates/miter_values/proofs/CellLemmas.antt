@@ -1,5 +1,6 @@
 -- The values of cells.
-use Rattle.std.proofs.Common.{◌≡◌, ◌≢◌, ℕ, zero, suc, ◌+◌, ◌-◌, ◌*◌, ◌/◌, ◌^◌, ◌<◌, ◌≤◌, ◌==◌, ◌↔◌, ◌⊎◌, inl, inr, Bool, true, false, not, List, [], ◌∷◌, ◌++◌, length, map, All, drop, get_or, take, if◌then◌else◌, refl, sym, ◌∙◌, ap, subst, arith, length-append}
+use Rattle.std.proofs.Common.{◌≡◌, ◌≢◌, ℕ, zero, suc, ◌+◌, ◌-◌, ◌*◌, ◌/◌, ◌^◌, ◌<◌, ◌≤◌, ◌==◌, ◌↔◌, ◌⊎◌, inl, inr, Bool, true, false, not, List, [], ◌∷◌, ◌++◌, length, map, All, drop, get_or, take, if◌then◌else◌, cond, refl, sym, ◌∙◌, ap, subst, arith, length-append}
+use mir.Val.{bool_byte}
 use Rattle.std.proofs.lemmas.Bool.{cases_lt, lt-ltb, le-ltb}
 use Rattle.std.proofs.lemmas.List.{drop_more, length-map, get_or-map}
 use Rattle.std.proofs.lemmas.List.Sums.{sum_by_more, sum_by-take-le}
@@ -129,7 +130,7 @@ cone_up : (cells : CellsValue) (j d : ℕ) → j + d < length cells.cone → con
 cone_up cells j zero le = let same = ap (cone_before cells) (let e : j ≡ j + 0 = omega arith in e) in omega arith
 cone_up cells j (suc d) le =
     let rest = cone_up cells j d (omega arith) in
-    let more = sum_by_more _ cells.cone (j + d) false (omega arith) in
+    let more = sum_by_more (λ (b : Bool). cond b 1 0) cells.cone (j + d) false (omega arith) in
     let same = ap (cone_before cells) (let e : j + d + 1 ≡ j + suc d = omega arith in e) in
     omega arith
 
@@ -171,3 +172,41 @@ pins_known c k before e cells lt inside zero_known inputs grows (Cell j) here =
     let count = cells.cone.count in
     let up = cone_less c.cells j k less (omega arith) own in
     (grows.known (cell_variable c.net c.cells j)).1 (inr (omega arith, omega arith))
+
+-- the cells below the next are those below this one, and this one
+pub cells_more : (net : Network) (cells : CellsValue) (k u : ℕ) → k < length cells.cone → in_cone cells k ≡ true
+    → IsOfCells net cells (k + 1) u ↔ (IsOfCells net cells k u ⊎ (u ≡ cell_variable net cells k))
+cells_more net cells k u lt inside =
+    let next = cone_in cells k lt inside in (
+      λ h. let low = h.0 in let high = h.1 in elim (cases_lt u (cell_variable net cells k)) [ inl below ↦ inl (low, below) | inr past ↦ inr (omega arith) ],
+      λ h. elim h [
+        | inl old ↦ (old.0, let high = old.1 in omega arith)
+        | inr same ↦ (omega arith, omega arith)
+      ],
+    )
+
+pub cells_none : (net : Network) (cells : CellsValue) (k u : ℕ) → k < length cells.cone → in_cone cells k ≡ false
+    → IsOfCells net cells (k + 1) u ↔ IsOfCells net cells k u
+cells_none net cells k u lt outside =
+    let next = cone_out cells k lt outside in (
+      λ h. (h.0, let high = h.1 in omega arith),
+      λ h. (h.0, let high = h.1 in omega arith),
+    )
+
+-- the variable of a source is within the places
+pub source_below : (c : Circuits) (source : Source) → 1 ≤ length c.net.outputs → source_variable c.net c.cells source < variable_count c.net c.cells + 1
+source_below c NoSource some = omega arith
+source_below c (Pad p) some = elim (cases_lt p (length c.net.inputs)) [
+  | inl input ↦ rw (lt-ltb p (length c.net.inputs) input) (omega arith)
+  | inr past ↦ rw (le-ltb p (length c.net.inputs) past) (omega arith)
+]
+source_below c (Cell k) some =
+    let within : cone_before c.cells k ≤ cone_size c.cells = sum_by-take-le _ c.cells.cone k in omega arith
+
+-- a bit as a byte is its number
+pub bool_byte-is : (b : Bool) → bool_byte b ≡ bit_of b
+bool_byte-is true = refl
+bool_byte-is false = refl
+
+pub bit_of-le : (b : Bool) → bit_of b ≤ 1
+bit_of-le b = bit_of-small b

@@ -117,11 +117,11 @@ module _ (net : Network) (cells : CellsValue) where
 
   -- the clauses of the cells so far, and of one more
   pub cell_next : (k number : ℕ) → k < length cells.cells → number ≡ first_of_cell net cells k → in_cone cells k ≡ true
-      → (number + table_bits cells.geometry ≡ first_of_cell net cells (k + 1)) × (number + table_bits cells.geometry ≤ length (circuits_of net cells))
+      → (number + table_bits cells.geometry ≡ first_of_cell net cells (k + 1)) × (number + table_bits cells.geometry ≤ length (circuits_of net cells) + 1)
   cell_next k number lt at inside =
       let listed : cell_clauses net cells k ≡ list_of (table_bits cells.geometry) (table_clause net cells k) = rw inside refl in
-      let many = ap (λ (cs : List Lits). length cs) listed in
-      let size = length-list_of (table_bits cells.geometry) (table_clause net cells k) in
+      let own : length (cell_clauses net cells k) ≡ table_bits cells.geometry =
+      ap (λ (cs : List Lits). length cs) listed ∙ length-list_of (table_bits cells.geometry) (table_clause net cells k) in
       let part = joined_part (length cells.cells) k (cell_clauses net cells) lt in
       let more = ap (λ (cs : List Lits). length cs) (joined-more k (cell_clauses net cells)) in
       let both = length-append (joined k (cell_clauses net cells)) (cell_clauses net cells k) in

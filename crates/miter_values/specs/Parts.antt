@@ -5,16 +5,16 @@ use Rattle.clause_defs.specs.Clauses.{Lits, Has, clause_of}
 use Rattle.net_defs.specs.Networks.{Network, node_at, signals}
 use Rattle.fabric_defs.specs.Geometries.{cell_count}
 use Rattle.cell_defs.specs.declared.source.Source.{Source}
-use Rattle.cell_defs.specs.declared.source.Source.TheVariants.{Cell}
+use Rattle.cell_defs.specs.declared.source.Source.TheVariants.{Zero as NoSource, Cell}
 use Rattle.cell_defs.specs.Cones.{in_cone}
 use Rattle.cell_defs.specs.Cells.{CellsValue, IsSourceBelow}
 use Rattle.miter_defs.specs.Numberings.{zero_variable, signal_variable, node_variable, row_variable, cell_variable, difference_variable, variable_count, source_variable}
-use Rattle.miter_defs.specs.Miters.{circuit_clauses}
+use Rattle.miter_defs.specs.Miters.{no_output, circuit_clauses}
 use Rattle.miter_cnf.specs.Numbered.{NumberingValue}
 use Rattle.miter_cnf.specs.Circuits.{Circuits, AreNumbered}
 use Rattle.leaf_defs.specs.Evaluated.{Evaluated, value_of, IsEvaluated}
 use Rattle.miter_places.specs.Places.{PlacesValue, places_of}
-use Rattle.miter_values.specs.Growing.{IsTrueIn, IsFalseIn}
+use Rattle.miter_values.specs.Growing.{IsTrueIn, IsFalseIn, Grows}
 
 -- all clauses of the miter but the last
 abbrev pub circuits_of : Network → CellsValue → List Lits
@@ -24,7 +24,7 @@ circuits_of net cells = map clause_of (circuit_clauses net cells)
 pub record HaveNumbers (net : Network) (cells : CellsValue) (m : NumberingValue) (p : PlacesValue) : Type 0 where
   pub numbered : AreNumbered net cells m
   pub places : p ≡ places_of net cells
-  pub few : length (circuits_of net cells) < 2 ^ 32
+  pub few : length (circuits_of net cells) + 1 < 2 ^ 32
 
 -- an evaluation by clauses of the two circuits, with a place for each variable
 pub record IsValued (c : Circuits) (e : Evaluated) : Type 0 where
@@ -97,3 +97,34 @@ HaveValues c e sources = (source : Source) → Has sources source → Has e.orde
 pub record AreInside (c : Circuits) (sources : List Source) : Type 0 where
   pub below : All (IsSourceBelow c.cells.geometry.input_pads (cell_count c.cells.geometry)) sources
   pub inside : (k : ℕ) → Has sources (Cell k) → in_cone c.cells k ≡ true
+
+-- the differences of the first outputs
+abbrev pub IsDifference : Network → CellsValue → ℕ → ℕ → Type 0
+IsDifference net cells n u = (difference_variable net cells 0 ≤ u) × (u < difference_variable net cells n)
+
+-- signals, the variable that is false, and the cells of the cone have values, and no difference has one
+pub record AreDone (c : Circuits) (e : Evaluated) : Type 0 where
+  pub signals_known : (s : ℕ) → s < signals c.net → Has e.order (signal_variable s)
+  pub zero_known : Has e.order zero_variable
+  pub cells_known : (k : ℕ) → k < cell_count c.cells.geometry → in_cone c.cells k ≡ true → Has e.order (cell_variable c.net c.cells k)
+  pub fresh : (u : ℕ) → Has e.order u → u < difference_variable c.net c.cells 0
+
+-- the signal of output o of the network
+abbrev pub output_signal : Network → ℕ → ℕ
+output_signal net o = (get_or net.outputs o no_output).signal
+
+-- the source of output pad o
+abbrev pub output_source : CellsValue → ℕ → Source
+output_source cells o = get_or cells.outputs o NoSource
+
+-- output o and its pad have values that differ
+pub record DifferHere (c : Circuits) (e : Evaluated) (o : ℕ) : Type 0 where
+  pub within : o < length c.net.outputs
+  pub signal_known : Has e.order (signal_variable (output_signal c.net o))
+  pub source_known : Has e.order (source_variable c.net c.cells (output_source c.cells o))
+  pub other : value_of e.values (signal_variable (output_signal c.net o)) ≡ value_of e.values (source_variable c.net c.cells (output_source c.cells o)) → ⊥
+
+-- all outputs are the same, and each difference is false
+pub record AreSame (c : Circuits) (before after : Evaluated) (n : ℕ) : Type 0 where
+  pub grows : Grows (circuits_of c.net c.cells) before after (IsDifference c.net c.cells n)
+  pub all_false : (o : ℕ) → o < n → value_of after.values (difference_variable c.net c.cells o) ≡ false

@@ -9,6 +9,7 @@
 #![tactic(auto)]
 
 mod nodes;
+mod outputs;
 mod parts;
 mod rows;
 mod values;

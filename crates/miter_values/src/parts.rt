@@ -65,6 +65,7 @@ impl<'a> MiterValues<'a> {
         ensures word { result ≡ word_of (map (source_value self.now.net self.now.cells e.now) pins.now) }
         ensures below { result < 2 ^ length pins.now }
     {
+        let _net = &self.net;
         let mut word = 0;
         for pin in (0..pins.len()).rev() {
             let bit = e.value(self.source(pins[pin]));

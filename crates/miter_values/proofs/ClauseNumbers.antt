@@ -1,5 +1,5 @@
 -- The clauses of the two circuits by their numbers.
-use Rattle.std.proofs.Common.{◌≡◌, ℕ, ◌+◌, ◌-◌, ◌<◌, ◌≤◌, true, false, List, [], ◌∷◌, ◌++◌, length, map, get_or, refl, sym, ◌∙◌, ap, arith, length-append}
+use Rattle.std.proofs.Common.{◌≡◌, ℕ, ◌+◌, ◌-◌, ◌*◌, ◌<◌, ◌≤◌, true, false, List, [], ◌∷◌, ◌++◌, length, map, get_or, refl, sym, ◌∙◌, ap, arith, length-append}
 use Rattle.std.proofs.lemmas.List.{length-map, map-append, get_or_append_left}
 use Rattle.clause_defs.specs.Clauses.{Lits, clause_of}
 use Rattle.net_defs.specs.Networks.{Network, node_at}
@@ -10,7 +10,7 @@ use Rattle.miter_defs.specs.Miters.{literal, negative, row_at, circuit_clauses, 
 use Rattle.leaf_defs.specs.Evaluated.{clause_numbered}
 use Rattle.miter_places.specs.Places.{is_asked, row_clauses, number_of_zero, first_of_node, first_of_row, first_of_cover, first_of_cell, first_of_output, number_of_last}
 use Rattle.miter_places.proofs.JoinedLemmas.{joined_part, joined_fewer}
-use Rattle.miter_places.proofs.SizeLemmas.{node_size, node_within, row_counted}
+use Rattle.miter_places.proofs.SizeLemmas.{outputs_size, node_size, node_within, row_counted}
 use Rattle.fabric_laws.proofs.NumberedLemmas.{length-list_of, get_or-list_of, joined-more}
 use Rattle.fabric_defs.specs.Geometries.{table_bits}
 use Rattle.cell_defs.specs.Cones.{in_cone}
@@ -136,3 +136,17 @@ module _ (net : Network) (cells : CellsValue) where
       let more = ap (λ (cs : List Lits). length cs) (joined-more k (cell_clauses net cells)) in
       let both = length-append (joined k (cell_clauses net cells)) (cell_clauses net cells k) in
       omega arith
+
+  -- clause j of output o, by the number of the first clause of all outputs
+  pub output_number : (o j : ℕ) → o < length net.outputs → j < 4
+      → (first_of_output net cells 0 + 4 * o + j ≤ length (circuits_of net cells))
+      × (clause_numbered (circuits_of net cells) (first_of_output net cells 0 + 4 * o + j) ≡ clause_of (get_or (output_clauses net cells o) j []))
+  output_number o j lt within =
+      let size = outputs_size net cells o in
+      let all = outputs_size net cells (length net.outputs) in
+      let count = circuits-count in
+      let same : first_of_output net cells 0 + 4 * o + j ≡ first_of_output net cells o + j = omega arith in
+      let high : first_of_output net cells o + j < number_of_last net cells = omega arith in
+      (omega arith,
+      ap (clause_numbered (circuits_of net cells)) same ∙ circuits_clause (first_of_output net cells o + j) (omega arith) high
+      ∙ output_clause net cells o j lt within)

@@ -3,3 +3,4 @@ pub mod RowLemmas
 pub mod ClauseNumbers
 pub mod NodeLemmas
 pub mod CellLemmas
+pub mod OutputLemmas

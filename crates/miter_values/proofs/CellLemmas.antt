@@ -59,7 +59,7 @@ bit_at-word value (x ∷ xs) (suc j) d lt =
 
 -- ---- the clause that gives a cell its value
 
-listed_in : (n : ℕ) (f : ℕ → Literal) (m : Literal) → Has (list_of n f) m → (j : ℕ) × (j < n) × (m ≡ f j)
+pub listed_in : (n : ℕ) (f : ℕ → Literal) (m : Literal) → Has (list_of n f) m → (j : ℕ) × (j < n) × (m ≡ f j)
 listed_in zero f m h = absurd h
 listed_in (suc n) f m h = elim ((Has-snoc (list_of n f) (f n) m).0 h) [
   | inl old ↦ let rest = listed_in n f m old in (rest.0, (let lt = rest.1 in omega arith), rest.2)
@@ -126,7 +126,7 @@ cone_out cells k lt outside =
     sum_by_more _ cells.cone k false lt ∙ ap (λ (b : Bool). cone_before cells k + (if b then 1 else 0)) outside ∙ omega arith
 
 -- a cell of the cone has a lower variable than later cells
-cone_up : (cells : CellsValue) (j d : ℕ) → j + d < length cells.cone → cone_before cells j ≤ cone_before cells (j + d)
+cone_up : (cells : CellsValue) (j d : ℕ) → j + d ≤ length cells.cone → cone_before cells j ≤ cone_before cells (j + d)
 cone_up cells j zero le = let same = ap (cone_before cells) (let e : j ≡ j + 0 = omega arith in e) in omega arith
 cone_up cells j (suc d) le =
     let rest = cone_up cells j d (omega arith) in
@@ -134,7 +134,7 @@ cone_up cells j (suc d) le =
     let same = ap (cone_before cells) (let e : j + d + 1 ≡ j + suc d = omega arith in e) in
     omega arith
 
-pub cone_less : (cells : CellsValue) (j k : ℕ) → j < k → k < length cells.cone → in_cone cells j ≡ true → cone_before cells j < cone_before cells k
+pub cone_less : (cells : CellsValue) (j k : ℕ) → j < k → k ≤ length cells.cone → in_cone cells j ≡ true → cone_before cells j < cone_before cells k
 cone_less cells j k less lt inside =
     let up = cone_up cells (j + 1) (k - (j + 1)) (omega arith) in
     let same = ap (cone_before cells) (let e : j + 1 + (k - (j + 1)) ≡ k = omega arith in e) in

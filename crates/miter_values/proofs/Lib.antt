@@ -4,3 +4,4 @@ pub mod ClauseNumbers
 pub mod NodeLemmas
 pub mod CellLemmas
 pub mod OutputLemmas
+pub mod InputLemmas

@@ -9,10 +9,10 @@ use Rattle.cell_defs.specs.declared.source.Source.TheVariants.{Zero as NoSource,
 use Rattle.cell_defs.specs.Cones.{in_cone}
 use Rattle.cell_defs.specs.Cells.{CellsValue, IsSourceBelow}
 use Rattle.miter_defs.specs.Numberings.{zero_variable, signal_variable, node_variable, row_variable, cell_variable, difference_variable, variable_count, source_variable}
-use Rattle.miter_defs.specs.Miters.{no_output, circuit_clauses}
+use Rattle.miter_defs.specs.Miters.{no_output, circuit_clauses, some_difference}
 use Rattle.miter_cnf.specs.Numbered.{NumberingValue}
 use Rattle.miter_cnf.specs.Circuits.{Circuits, AreNumbered}
-use Rattle.leaf_defs.specs.Evaluated.{Evaluated, value_of, IsEvaluated}
+use Rattle.leaf_defs.specs.Evaluated.{Evaluated, value_of, variable_at, IsFalseAmong, IsEvaluated}
 use Rattle.miter_places.specs.Places.{PlacesValue, places_of}
 use Rattle.miter_values.specs.Growing.{IsTrueIn, IsFalseIn, Grows}
 
@@ -128,3 +128,29 @@ pub record DifferHere (c : Circuits) (e : Evaluated) (o : ℕ) : Type 0 where
 pub record AreSame (c : Circuits) (before after : Evaluated) (n : ℕ) : Type 0 where
   pub grows : Grows (circuits_of c.net c.cells) before after (IsDifference c.net c.cells n)
   pub all_false : (o : ℕ) → o < n → value_of after.values (difference_variable c.net c.cells o) ≡ false
+
+-- the inputs were chosen, in their order, and have the bits x
+pub record HasInputs (net : Network) (x : List ℕ) (e : Evaluated) : Type 0 where
+  pub chosen : e.chosen ≡ length net.inputs
+  pub order : (i : ℕ) → i < length net.inputs → variable_at e.order i ≡ signal_variable i
+  pub bits : (i : ℕ) → i < length net.inputs → bit_of (value_of e.values (signal_variable i)) ≡ get_or x i 0
+  pub many : length net.inputs ≤ length e.order
+
+-- just the first n inputs have values
+pub record AreChosen (f : List Lits) (x : List ℕ) (n : ℕ) (e : Evaluated) : Type 0 where
+  pub evaluated : IsEvaluated f e
+  pub chosen : e.chosen ≡ n
+  pub count : length e.order ≡ n
+  pub order : (i : ℕ) → i < n → variable_at e.order i ≡ signal_variable i
+  pub known : (u : ℕ) → Has e.order u → (2 ≤ u) × (u < 2 + n)
+  pub bits : (i : ℕ) → i < n → bit_of (value_of e.values (signal_variable i)) ≡ get_or x i 0
+
+-- all outputs are the same: the clause that some output differs is false
+pub record IsSameAt (c : Circuits) (e : Evaluated) : Type 0 where
+  pub evaluated : IsEvaluated (circuits_of c.net c.cells) e
+  pub last_false : IsFalseAmong e.values e.order (clause_of (some_difference c.net c.cells))
+
+-- the outputs differ somewhere
+pub record IsOtherAt (c : Circuits) (e : Evaluated) (o : ℕ) : Type 0 where
+  pub evaluated : IsEvaluated (circuits_of c.net c.cells) e
+  pub differ : DifferHere c e o

@@ -8,6 +8,7 @@
 //! part of the circuits.
 #![tactic(auto)]
 
+mod inputs;
 mod nodes;
 mod outputs;
 mod parts;

@@ -2,11 +2,11 @@
 
 ghost use Rattle.std.specs.Prelude.{◌≡◌, ℕ, ◌+◌, ◌*◌, ◌<◌, length, false, IfSome, IfNone};
 ghost use Rattle.clause_defs.specs.Clauses.{Has};
-ghost use Rattle.leaf_defs.specs.Evaluated.{value_of, IsEvaluated};
+ghost use Rattle.leaf_defs.specs.Evaluated.{value_of};
 ghost use Rattle.miter_defs.specs.Numberings.{difference_variable, signal_variable, source_variable};
 ghost use Rattle.miter_places.specs.Places.{first_of_output};
 ghost use Rattle.miter_values.specs.Growing.{Grows};
-ghost use Rattle.miter_values.specs.Parts.{circuits_of, IsValued, AreDone, AreSame, DifferHere, output_signal, output_source};
+ghost use Rattle.miter_values.specs.Parts.{circuits_of, IsValued, AreDone, AreSame, DifferHere, IsDifference, output_signal, output_source};
 
 use crate::values::MiterValues;
 use leaf_chain::Evaluation;
@@ -59,8 +59,9 @@ impl<'a> MiterValues<'a> {
         requires valued { IsValued self.now e.old }
         requires done { AreDone self.now e.old }
         ensures none { IfNone result (AreSame self.now e.old e.new (length self.now.net.outputs)) }
-        ensures some { IfSome result (λ o. DifferHere self.now e.new o
-            × IsEvaluated (circuits_of self.now.net self.now.cells) e.new) }
+        ensures some { IfSome result (λ o. DifferHere self.now e.new o) }
+        ensures grows { (n : ℕ) × Grows (circuits_of self.now.net self.now.cells) e.old e.new
+            (IsDifference self.now.net self.now.cells n) }
     {
         for o in 0..self.net.outputs() {
             let value = self.first_value(o, e);

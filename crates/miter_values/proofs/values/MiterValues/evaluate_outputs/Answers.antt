@@ -22,7 +22,13 @@ returns-then-second_value-value-clause-some c =
       other = λ same. not_equal c.second_value.result c.first_value-value.result c.if-second_value-value.true
           (c.second_value.ensures ∙ sym same ∙ sym c.first_value-value.ensures);
     } in
-    (differs, c.loop-o.invariant.grows.evaluated)
+    differs
+
+pub returns-then-second_value-value-clause-grows : goal.returns-then-second_value-value-clause-grows
+returns-then-second_value-value-clause-grows c = (c.loop-o.o, c.loop-o.invariant.grows)
+
+pub returns-clause-grows : goal.returns-clause-grows
+returns-clause-grows c = (c.loop-o.o, c.loop-o.invariant.grows)
 
 pub evaluate_output-requires-clause-source : goal.evaluate_output-requires-clause-source
 evaluate_output-requires-clause-source c =

@@ -1,5 +1,5 @@
 -- From the values of the inputs to those of all variables.
-use Rattle.std.proofs.Common.{◌≡◌, ℕ, ◌+◌, ◌-◌, ◌<◌, ◌≤◌, ◌⊎◌, inl, inr, Bool, true, false, not, if◌then◌else◌, List, [], ◌∷◌, ◌++◌, length, get_or, set, refl, sym, ◌∙◌, ap, subst, arith, length-append}
+use Rattle.std.proofs.Common.{◌≡◌, ℕ, ◌+◌, ◌-◌, ◌<◌, ◌≤◌, ◌⊎◌, inl, inr, Bool, true, false, not, if◌then◌else◌, Option, Some, None, IfNone, List, [], ◌∷◌, ◌++◌, length, get_or, set, refl, sym, ◌∙◌, ap, subst, arith, length-append}
 use Rattle.std.proofs.lemmas.Bool.{cases_lt}
 use Rattle.std.proofs.lemmas.List.{get_or-set_same, get_or-set_other, get_or_append_left}
 use Rattle.std.proofs.lemmas.List.Sums.{sum_by-take-le}
@@ -170,3 +170,8 @@ last_is_false c before e h l here =
     let known : Has e.order d = (h.grows.known d).1 (inr (omega arith, omega arith)) in
     let own : positive d ≡ false_literal e.values d = ap (λ b. record { variable = d; positive = not b }) (sym (h.all_false at.0 at.1)) in
     subst (λ (m : Literal). (m ≡ false_literal e.values m.variable) × Has e.order m.variable) (sym at.2) (own, known)
+
+-- what is said of no answer, said in other words
+pub none_as : {P Q : Type 0} (r : Option ℕ) → (P → Q) → IfNone r P → IfNone r Q
+none_as None f h = f h
+none_as (Some o) f h = h

@@ -50,6 +50,7 @@ impl<'a> MiterValues<'a> {
         ensures none { IfNone result (IsSameAt self.now e.new) }
         ensures some { IfSome result (λ o. IsOtherAt self.now e.new o) }
     {
+        let _net = &self.net;
         self.choose_inputs(x, e);
         self.evaluate_zero(e);
         self.evaluate_nodes(e);

@@ -1,7 +1,7 @@
 -- Variables with their values, in an order in which the values follow from each other: the first ones were
 -- chosen, and each later one has a clause, its reason, whose other literals are false already.
 -- (Unit propagation, where the order is known beforehand.)
-use Rattle.std.specs.Prelude.{◌≡◌, ◌≢◌, ℕ, ◌-◌, ◌<◌, ◌≤◌, Bool, false, not, List, [], ◌∷◌, length, take, get_or}
+use Rattle.std.specs.Prelude.{◌≡◌, ◌≢◌, ℕ, ◌-◌, ◌<◌, ◌≤◌, Bool, false, not, List, [], length, take, get_or}
 use Rattle.clause_defs.specs.Literals.{Literal}
 use Rattle.clause_defs.specs.Clauses.{Lits, Has}
 

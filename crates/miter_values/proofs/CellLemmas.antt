@@ -1,21 +1,19 @@
 -- The values of cells.
-use Rattle.std.proofs.Common.{◌≡◌, ◌≢◌, ℕ, zero, suc, ◌+◌, ◌-◌, ◌*◌, ◌/◌, ◌^◌, ◌<◌, ◌≤◌, ◌==◌, ◌↔◌, ◌⊎◌, inl, inr, Bool, true, false, not, List, [], ◌∷◌, ◌++◌, length, map, All, drop, get_or, take, if◌then◌else◌, cond, refl, sym, ◌∙◌, ap, subst, arith, length-append}
+use Rattle.std.proofs.Common.{◌≡◌, ℕ, zero, suc, ◌+◌, ◌-◌, ◌*◌, ◌/◌, ◌^◌, ◌<◌, ◌≤◌, ◌==◌, ◌↔◌, ◌⊎◌, inl, inr, Bool, true, false, not, List, [], ◌∷◌, length, map, All, drop, get_or, if◌then◌else◌, cond, refl, sym, ◌∙◌, ap, subst, arith}
 use mir.Val.{bool_byte}
 use Rattle.std.proofs.lemmas.Bool.{cases_lt, lt-ltb, le-ltb}
-use Rattle.std.proofs.lemmas.List.{drop_more, length-map, get_or-map}
+use Rattle.std.proofs.lemmas.List.{drop_more}
 use Rattle.std.proofs.lemmas.List.Sums.{sum_by_more, sum_by-take-le}
 use Rattle.std.proofs.lemmas.Nat.Bits.{bit_at_lowest, bit_at-suc}
 use Rattle.std.specs.Int.{bit_at}
 use Rattle.pch_base.specs.BitLists.{word_of}
 use Rattle.clause_defs.specs.Literals.{Literal}
-use Rattle.clause_defs.specs.Clauses.{Lits, Has, clause_of}
+use Rattle.clause_defs.specs.Clauses.{Has}
 use Rattle.chain_check.proofs.ClauseLists.{Has-snoc}
 use Rattle.log_laws.proofs.TraceOfLemmas.{Has-get_or}
-use Rattle.net_defs.specs.Networks.{Network, signals}
-use Rattle.net_defs.specs.Nets.{row_count}
-use Rattle.fabric_defs.specs.Numbered.{list_of, joined}
+use Rattle.net_defs.specs.Networks.{Network}
+use Rattle.fabric_defs.specs.Numbered.{list_of}
 use Rattle.fabric_defs.specs.Geometries.{table_bits, cell_count}
-use Rattle.fabric_laws.proofs.NumberedLemmas.{length-list_of, get_or-list_of, joined-more}
 use Rattle.cell_defs.specs.declared.source.Source.{Source}
 use Rattle.cell_defs.specs.declared.source.Source.TheVariants.{Zero as NoSource, Pad, Cell}
 use Rattle.cell_defs.specs.Cells.{CellsValue, IsSourceBelow, cell_at}
@@ -24,10 +22,10 @@ use Rattle.cell_laws.proofs.SourceBits.{All-Has}
 use Rattle.extract.specs.Kept.{AreCellsWithCone}
 use Rattle.miter_cnf.specs.Circuits.{Circuits}
 use Rattle.miter_defs.specs.Numberings.{zero_variable, signal_variable, cell_variable, cone_before, cone_size, source_variable, variable_count}
-use Rattle.miter_defs.specs.Miters.{literal, table_clause, cell_clauses}
+use Rattle.miter_defs.specs.Miters.{literal, table_clause}
 use Rattle.leaf_defs.specs.Evaluated.{Evaluated, value_of, clause_numbered}
 use Rattle.miter_places.specs.Places.{first_of_cell}
-use Rattle.miter_values.specs.Growing.{IsTrueIn, IsFalseIn, IsForced, Grows}
+use Rattle.miter_values.specs.Growing.{IsFalseIn, IsForced, Grows}
 use Rattle.miter_values.specs.Parts.{circuits_of, bit_of, source_value, IsOfCells, HaveValues, AreInside}
 use Rattle.miter_values.proofs.GrowLemmas.{forced_set}
 use Rattle.miter_values.proofs.ClauseNumbers.{cell_number}
@@ -111,7 +109,7 @@ cell_step c k number word e cells lt inside at known is below =
     let most = numbered.0 in (
       omega arith,
       subst (IsForced e own) (sym (ap (clause_numbered (circuits_of c.net c.cells)) same ∙ numbered.1))
-      (forced_set e own (table_clause c.net c.cells k word) (forced_cell c k word e known is)),
+          (forced_set e own (table_clause c.net c.cells k word) (forced_cell c k word e known is)),
     )
 
 -- ---- the cells of the cone by number

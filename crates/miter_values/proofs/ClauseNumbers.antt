@@ -6,10 +6,10 @@ use Rattle.net_defs.specs.Networks.{Network, node_at}
 use Rattle.fabric_defs.specs.Numbered.{list_of, joined}
 use Rattle.cell_defs.specs.Cells.{CellsValue}
 use Rattle.miter_defs.specs.Numberings.{node_variable, row_variable}
-use Rattle.miter_defs.specs.Miters.{literal, negative, row_at, circuit_clauses, cover_clauses, node_clauses, table_clause, cell_clauses, output_clauses, some_difference, Miter}
+use Rattle.miter_defs.specs.Miters.{literal, negative, row_at, circuit_clauses, cover_clauses, table_clause, cell_clauses, output_clauses, some_difference, Miter}
 use Rattle.leaf_defs.specs.Evaluated.{clause_numbered}
-use Rattle.miter_places.specs.Places.{is_asked, row_clauses, number_of_zero, first_of_node, first_of_row, first_of_cover, first_of_cell, first_of_output, number_of_last}
-use Rattle.miter_places.proofs.JoinedLemmas.{joined_part, joined_fewer}
+use Rattle.miter_places.specs.Places.{is_asked, row_clauses, first_of_node, first_of_row, first_of_cover, first_of_cell, first_of_output, number_of_last}
+use Rattle.miter_places.proofs.JoinedLemmas.{joined_part}
 use Rattle.miter_places.proofs.SizeLemmas.{outputs_size, node_size, node_within, row_counted}
 use Rattle.fabric_laws.proofs.NumberedLemmas.{length-list_of, get_or-list_of, joined-more}
 use Rattle.fabric_defs.specs.Geometries.{table_bits}
@@ -17,7 +17,7 @@ use Rattle.cell_defs.specs.Cones.{in_cone}
 use Rattle.std.specs.List.{count_by}
 use Rattle.blif_defs.specs.declared.mark.Mark.{Mark}
 use Rattle.net_defs.specs.Nets.{IsNet}
-use Rattle.miter_places.proofs.NumberLaws.{length-Miter, zero_clause, row_clause, cover_clause, cell_clause, output_clause}
+use Rattle.miter_places.proofs.NumberLaws.{length-Miter, row_clause, cover_clause, cell_clause, output_clause}
 use Rattle.miter_values.specs.Parts.{circuits_of}
 
 module _ (net : Network) (cells : CellsValue) where
@@ -110,10 +110,11 @@ module _ (net : Network) (cells : CellsValue) where
       let part = joined_part (length cells.cells) k (cell_clauses net cells) lt in
       let end = cells_end in
       let count = circuits-count in
-      let own : word < length (cell_clauses net cells k) = omega arith in
-      (omega arith,
-      circuits_clause (first_of_cell net cells k + word) (omega arith) (omega arith) ∙ cell_clause net cells k word lt own
-      ∙ ap clause_of (ap (λ (cs : List Lits). get_or cs word []) listed ∙ get_or-list_of (table_bits cells.geometry) (table_clause net cells k) word [] within))
+      let own : word < length (cell_clauses net cells k) = omega arith in (
+        omega arith,
+        circuits_clause (first_of_cell net cells k + word) (omega arith) (omega arith) ∙ cell_clause net cells k word lt own
+            ∙ ap clause_of (ap (λ (cs : List Lits). get_or cs word []) listed ∙ get_or-list_of (table_bits cells.geometry) (table_clause net cells k) word [] within),
+      )
 
   -- the clauses of the cells so far, and of one more
   pub cell_next : (k number : ℕ) → k < length cells.cells → number ≡ first_of_cell net cells k → in_cone cells k ≡ true
@@ -146,7 +147,8 @@ module _ (net : Network) (cells : CellsValue) where
       let all = outputs_size net cells (length net.outputs) in
       let count = circuits-count in
       let same : first_of_output net cells 0 + 4 * o + j ≡ first_of_output net cells o + j = omega arith in
-      let high : first_of_output net cells o + j < number_of_last net cells = omega arith in
-      (omega arith,
-      ap (clause_numbered (circuits_of net cells)) same ∙ circuits_clause (first_of_output net cells o + j) (omega arith) high
-      ∙ output_clause net cells o j lt within)
+      let high : first_of_output net cells o + j < number_of_last net cells = omega arith in (
+        omega arith,
+        ap (clause_numbered (circuits_of net cells)) same ∙ circuits_clause (first_of_output net cells o + j) (omega arith) high
+            ∙ output_clause net cells o j lt within,
+      )

@@ -1,12 +1,11 @@
 -- More variables with values.
-use Rattle.std.proofs.Common.{◌≡◌, ◌≢◌, ℕ, zero, suc, ◌+◌, ◌-◌, ◌<◌, ◌≤◌, ◌↔◌, ◌⊎◌, inl, inr, Bool, true, false, not, List, [], ◌∷◌, ◌++◌, length, get_or, take, set, refl, sym, ◌∙◌, ap, subst, arith, length-append, length-set}
-use Rattle.std.proofs.lemmas.Bool.{cases_Bool}
+use Rattle.std.proofs.Common.{◌≡◌, ℕ, ◌≤◌, ◌↔◌, ◌⊎◌, inl, inr, Bool, true, false, not, List, [], ◌∷◌, ◌++◌, length, set, refl, sym, ◌∙◌, ap, subst, length-set}
 use Rattle.std.proofs.lemmas.List.{append_assoc, append-nil, get_or-set_same, get_or-set_other}
 use Rattle.clause_defs.specs.Literals.{Literal}
 use Rattle.clause_defs.specs.Clauses.{Lits, Has, SameSet, clause_of}
 use Rattle.clause_laws.proofs.ClauseOf.{SameSet-clause_of}
 use Rattle.chain_check.proofs.ClauseLists.{Has-snoc}
-use Rattle.leaf_defs.specs.Evaluated.{Evaluated, value_of, true_literal, false_literal, IsReason, IsEvaluated, clause_numbered}
+use Rattle.leaf_defs.specs.Evaluated.{Evaluated, value_of, true_literal, IsReason, IsEvaluated, clause_numbered}
 use Rattle.leaf_chain.specs.Growing.{IsWithout, with_implied}
 use Rattle.leaf_chain.proofs.GrowingLemmas.{evaluated_implied}
 use Rattle.miter_defs.specs.Miters.{literal}
@@ -49,10 +48,11 @@ module _ (f : List Lits) (e : Evaluated) (v number : ℕ) (value : Bool) (evalua
     implied = subst (Has (clause_numbered f number)) (sym true_is) forced.implied;
     others = λ l here other. elim (forced.others l here) [
       | inl same ↦ absurd (other (same ∙ sym true_is))
-      | inr is_false ↦
-          (literal_is l l.variable (not (value_of (set e.values v value) l.variable)) refl
-          (sym (not_not l.positive) ∙ ap not (sym is_false.value) ∙ ap not (sym (value_kept l.variable is_false.known))),
-          is_false.known)
+      | inr is_false ↦ (
+        literal_is l l.variable (not (value_of (set e.values v value) l.variable)) refl
+            (sym (not_not l.positive) ∙ ap not (sym is_false.value) ∙ ap not (sym (value_kept l.variable is_false.known))),
+        is_false.known,
+      )
     ];
   }
 

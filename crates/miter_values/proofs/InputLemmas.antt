@@ -1,5 +1,5 @@
 -- From the values of the inputs to those of all variables.
-use Rattle.std.proofs.Common.{◌≡◌, ℕ, ◌+◌, ◌-◌, ◌<◌, ◌≤◌, ◌⊎◌, inl, inr, Bool, true, false, not, if◌then◌else◌, Option, Some, None, IfNone, List, [], ◌∷◌, ◌++◌, length, get_or, set, refl, sym, ◌∙◌, ap, subst, arith, length-append}
+use Rattle.std.proofs.Common.{◌≡◌, ℕ, ◌+◌, ◌-◌, ◌<◌, ◌≤◌, inl, inr, Bool, true, false, not, if◌then◌else◌, Option, Some, None, IfNone, List, [], ◌∷◌, ◌++◌, length, get_or, set, refl, sym, ◌∙◌, ap, subst, arith, length-append}
 use Rattle.std.proofs.lemmas.Bool.{cases_lt}
 use Rattle.std.proofs.lemmas.List.{get_or-set_same, get_or-set_other, get_or_append_left}
 use Rattle.std.proofs.lemmas.List.Sums.{sum_by-take-le}
@@ -11,14 +11,12 @@ use Rattle.chain_check.proofs.ClauseLists.{Has-snoc}
 use Rattle.log_laws.proofs.TraceOfLemmas.{Has-get_or}
 use Rattle.net_defs.specs.Networks.{Network, signals}
 use Rattle.net_defs.specs.Nets.{row_count}
-use Rattle.cell_defs.specs.Cells.{CellsValue}
-use Rattle.cell_defs.specs.Cones.{in_cone}
 use Rattle.fabric_defs.specs.Geometries.{cell_count}
 use Rattle.miter_cnf.specs.Circuits.{Circuits, AreCircuits}
-use Rattle.miter_defs.specs.Numberings.{zero_variable, signal_variable, node_variable, cell_variable, cone_before, cone_size, difference_variable}
+use Rattle.miter_defs.specs.Numberings.{zero_variable, signal_variable, cell_variable, cone_before, cone_size, difference_variable}
 use Rattle.miter_defs.specs.Miters.{positive, some_difference}
 use Rattle.leaf_defs.specs.Evaluated.{Evaluated, value_of, variable_at, false_literal, IsFalseAmong, IsEvaluated}
-use Rattle.leaf_chain.specs.Growing.{IsWithout, CanChoose, with_chosen}
+use Rattle.leaf_chain.specs.Growing.{CanChoose, with_chosen}
 use Rattle.leaf_chain.proofs.GrowingLemmas.{evaluated_chosen}
 use Rattle.miter_values.specs.Growing.{Grows}
 use Rattle.miter_values.specs.Parts.{circuits_of, bit_of, IsOfNode, IsOfSomeNode, IsOfCells, AreDone, AreSame, AreChosen, HasInputs}

@@ -1,5 +1,5 @@
 -- The values of a node's rows and of the node.
-use Rattle.std.proofs.Common.{◌≡◌, ℕ, zero, suc, ◌+◌, ◌-◌, ◌<◌, ◌≤◌, ◌↔◌, ◌⊎◌, inl, inr, Bool, true, false, not, Option, Some, None, List, [], ◌∷◌, ◌++◌, length, map, get_or, take, sum_by, refl, sym, ◌∙◌, ap, subst, arith, add-one}
+use Rattle.std.proofs.Common.{◌≡◌, ℕ, zero, suc, ◌+◌, ◌-◌, ◌<◌, ◌≤◌, ◌↔◌, ◌⊎◌, inl, inr, Bool, true, false, not, Option, Some, None, List, [], ◌∷◌, length, map, get_or, take, refl, sym, ◌∙◌, ap, subst, arith, add-one}
 use Rattle.std.proofs.lemmas.Bool.{cases_lt}
 use Rattle.std.proofs.lemmas.List.{get_or-map, length-map, get_or_default, take_all}
 use Rattle.pch_base.proofs.SetLemmas.{Contains-Has}
@@ -7,20 +7,20 @@ use Rattle.chain_check.proofs.ClauseLists.{Has-take_more}
 use Rattle.cell_laws.proofs.SourceBits.{All-Has}
 use Rattle.net_defs.specs.Orders.{IsKnown, IsOrder}
 use Rattle.leaf_chain.proofs.RunningLemmas.{place_in_take}
-use Rattle.std.proofs.lemmas.List.Sums.{sum_by_more_le, sum_by-take-le, sum_by_more}
+use Rattle.std.proofs.lemmas.List.Sums.{sum_by_more_le, sum_by_more}
 use Rattle.blif_defs.specs.declared.mark.Mark.{Mark}
 use Rattle.clause_defs.specs.Literals.{Literal}
-use Rattle.clause_defs.specs.Clauses.{Lits, Has, clause_of}
-use Rattle.net_defs.specs.Networks.{Node, Network, no_node, node_at, signals}
-use Rattle.net_defs.specs.Nets.{row_count, IsNet}
+use Rattle.clause_defs.specs.Clauses.{Lits, Has}
+use Rattle.net_defs.specs.Networks.{Node, Network, no_node, node_at}
+use Rattle.net_defs.specs.Nets.{row_count}
 use Rattle.fabric_defs.specs.Numbered.{list_of}
 use Rattle.fabric_laws.proofs.NumberedLemmas.{length-list_of, get_or-list_of}
 use Rattle.cell_defs.specs.Cells.{CellsValue}
-use Rattle.miter_defs.specs.Numberings.{signal_variable, node_variable, rows_before, row_variable, variable_count}
-use Rattle.miter_defs.specs.Miters.{literal, positive, negative, row_at, row_literals, hit_clauses, cover_clauses}
+use Rattle.miter_defs.specs.Numberings.{signal_variable, node_variable, rows_before, row_variable}
+use Rattle.miter_defs.specs.Miters.{literal, positive, negative, row_at, row_literals, cover_clauses}
 use Rattle.leaf_defs.specs.Evaluated.{Evaluated, value_of, clause_numbered}
 use Rattle.miter_places.specs.Places.{row_clauses, first_of_row, first_of_cover}
-use Rattle.miter_values.specs.Growing.{IsTrueIn, IsFalseIn, IsForced, Grows}
+use Rattle.miter_values.specs.Growing.{IsFalseIn, IsForced, Grows}
 use Rattle.miter_values.specs.Parts.{circuits_of, AreKnown, IsRowValue, IsRowOf, IsHit, IsOfNode, IsOfNodes, IsOfSomeNode, later, cover_place, node_value}
 use Rattle.miter_values.proofs.GrowLemmas.{forced_set}
 use Rattle.miter_values.proofs.RowLemmas.{forced_row}
@@ -47,7 +47,7 @@ row_step net cells v r number asked e hits marks ss lt row at value marks_are ss
     let most = numbered.0 in (
       omega arith,
       subst (IsForced e (literal (row_variable net v r) hits)) (sym (ap (clause_numbered (circuits_of net cells)) same ∙ numbered.1))
-      (forced_set e (literal (row_variable net v r) hits) (get_or (row_clauses net v r) asked []) forced.1),
+          (forced_set e (literal (row_variable net v r) hits) (get_or (row_clauses net v r) asked []) forced.1),
     )
 
 -- one row more hits or doesn't
@@ -136,8 +136,8 @@ cover_step net cells v next e hit lt at h known =
     let most = numbered.0 in (
       omega arith,
       subst (IsForced e l) (sym (ap (clause_numbered (circuits_of net cells)) same ∙ numbered.1))
-      (forced_set e l
-      (get_or (cover_clauses (node_variable net v) (node_at net v).on (list_of (length (node_at net v).rows) (row_variable net v))) (cover_place hit) []) forced.1),
+          (forced_set e l
+          (get_or (cover_clauses (node_variable net v) (node_at net v).on (list_of (length (node_at net v).rows) (row_variable net v))) (cover_place hit) []) forced.1),
     )
 
 -- ---- all nodes

@@ -1,10 +1,9 @@
 -- The values of the outputs and of their differences.
-use Rattle.std.proofs.Common.{◌≡◌, ◌≢◌, ℕ, ◌+◌, ◌*◌, ◌<◌, ◌≤◌, ◌↔◌, ◌⊎◌, inl, inr, Bool, true, false, not, List, [], ◌∷◌, length, map, get_or, slice_get, Some, refl, sym, ◌∙◌, ap, subst, arith}
+use Rattle.std.proofs.Common.{◌≡◌, ℕ, ◌+◌, ◌*◌, ◌<◌, ◌≤◌, inl, inr, Bool, true, false, [], length, get_or, slice_get, Some, refl, sym, ◌∙◌, ap, subst, arith}
 use Rattle.std.proofs.lemmas.Bool.{cases_lt, lt-ltb, le-ltb}
 use Rattle.std.proofs.lemmas.List.{get_or-map}
 use Rattle.std.proofs.lemmas.Option.{get_or_from_slice_get}
-use Rattle.clause_defs.specs.Literals.{Literal}
-use Rattle.clause_defs.specs.Clauses.{Lits, Has, clause_of}
+use Rattle.clause_defs.specs.Clauses.{Has}
 use Rattle.log_laws.proofs.TraceOfLemmas.{Has-get_or}
 use Rattle.net_defs.specs.Networks.{Output, Network, signals}
 use Rattle.net_defs.specs.Nets.{IsNet}
@@ -16,8 +15,8 @@ use Rattle.cell_defs.specs.Cones.{in_cone}
 use Rattle.cell_laws.proofs.SourceBits.{All-Has}
 use Rattle.fabric_defs.specs.Geometries.{cell_count}
 use Rattle.miter_cnf.specs.Circuits.{Circuits, AreCircuits}
-use Rattle.miter_defs.specs.Numberings.{zero_variable, signal_variable, source_variable, difference_variable}
-use Rattle.miter_defs.specs.Miters.{literal, positive, negative, no_output, difference_clauses, output_clauses}
+use Rattle.miter_defs.specs.Numberings.{signal_variable, source_variable, difference_variable}
+use Rattle.miter_defs.specs.Miters.{literal, no_output, difference_clauses, output_clauses}
 use Rattle.leaf_defs.specs.Evaluated.{Evaluated, value_of, clause_numbered}
 use Rattle.miter_places.specs.Places.{first_of_output}
 use Rattle.miter_values.specs.Growing.{IsFalseIn, IsForced, Grows}
@@ -113,7 +112,7 @@ output_step c o number e value lt at known_a known_b first second =
     let most = numbered.0 in (
       omega arith,
       subst (IsForced e (literal d false)) (sym (ap (clause_numbered (circuits_of c.net c.cells)) same ∙ numbered.1))
-      (forced_set e (literal d false) (get_or (output_clauses c.net c.cells o) (bit_of value) []) forced),
+          (forced_set e (literal d false) (get_or (output_clauses c.net c.cells o) (bit_of value) []) forced),
     )
 
 -- ---- all outputs

@@ -1,5 +1,5 @@
 -- What a row asks, and the clause that gives it its value.
-use Rattle.std.proofs.Common.{◌≡◌, ◌≢◌, ℕ, zero, suc, ◌+◌, ◌<◌, ◌≤◌, ◌⊎◌, inl, inr, Bool, true, false, not, List, [], ◌∷◌, ◌++◌, length, map, get_or, take, refl, sym, ◌∙◌, ap, subst, arith, length-append}
+use Rattle.std.proofs.Common.{◌≡◌, ◌≢◌, ℕ, zero, suc, ◌+◌, ◌<◌, ◌≤◌, inl, inr, Bool, true, false, not, List, [], ◌∷◌, ◌++◌, length, map, get_or, take, refl, sym, ◌∙◌, ap, subst, arith, length-append}
 use Rattle.std.proofs.Math.Bool.{beq}
 use Rattle.std.proofs.lemmas.List.{length-map, get_or-map, get_or_append_left, get_or-append-add, append-nil, take_all}
 use Rattle.std.proofs.Math.Seq.{get_or-append_seam}
@@ -31,7 +31,7 @@ asked_place [] ss i d l lt within h = absurd (omega arith)
 asked_place (m ∷ ms) [] i d l lt within h = absurd (omega arith)
 asked_place (m ∷ ms) (s ∷ ss) zero d l lt within h = (
   (let all = length-append (mark_literals m s) (row_literals ms ss) in
-  let one = ap (λ (ls : Lits). length ls) h in omega arith),
+      let one = ap (λ (ls : Lits). length ls) h in omega arith),
   λ e. ap (λ (ls : Lits). get_or (ls ++ row_literals ms ss) 0 e) h,
 )
 asked_place (m ∷ ms) (s ∷ ss) (suc i) d l lt within h =

@@ -1,5 +1,5 @@
 -- More variables get values, and those that have one keep it.
-use Rattle.std.specs.Prelude.{◌≡◌, ℕ, ◌↔◌, ◌⊎◌, Bool, true, false, not, List, ◌++◌, length, get_or}
+use Rattle.std.specs.Prelude.{◌≡◌, ℕ, ◌↔◌, ◌⊎◌, not, List, ◌++◌, length}
 use Rattle.clause_defs.specs.Literals.{Literal}
 use Rattle.clause_defs.specs.Clauses.{Lits, Has}
 use Rattle.leaf_defs.specs.Evaluated.{Evaluated, value_of, IsEvaluated}

@@ -88,7 +88,11 @@ impl<'a> MiterValues<'a> {
         let numbering = &self.numbering;
         let cell = self.cells.cell(k);
         let word = self.word(cell.pins, e);
-        e.imply(numbering.cell(k), table_bit(cell.table, word), number + word);
+        e.imply(
+            numbering.cell(k),
+            table_bit(cell.table, word),
+            number + word,
+        );
     }
 
     /// Gives the cells of the cone their values, by number.

@@ -5,7 +5,7 @@ use Rattle.net_defs.specs.Evaluation.{SpecOut}
 use Rattle.fabric_defs.specs.Bits.{IsBits}
 use Rattle.fabric_defs.specs.Configurations.{ConfigValue}
 use Rattle.fabric_defs.specs.Wirings.{FabOut}
-use Rattle.log_defs.specs.Logs.{Words, LogValue, HasDerived, Extends}
+use Rattle.log_defs.specs.Logs.{Words, LogValue, HasDerived}
 use Rattle.tree_defs.specs.Budgets.{Enough}
 use Rattle.tree_defs.specs.declared.tree_end.TreeEnd.{TreeEnd}
 use Rattle.tree_defs.specs.declared.tree_end.TreeEnd.TheVariants.{Empty, Differs, Spent}

@@ -7,9 +7,9 @@
 #![tactic(auto)]
 
 mod search;
-mod tree;
+mod refute;
 
-pub use tree::tree;
+pub use refute::tree;
 
 #[cfg(test)]
 mod tests;

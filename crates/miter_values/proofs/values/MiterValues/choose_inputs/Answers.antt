@@ -1,4 +1,4 @@
-use Rattle.std.proofs.Common.{◌≡◌, ◌+◌, ◌<◌, ℕ, length, length-set, ap, sym, ◌∙◌, subst, arith}
+use Rattle.std.proofs.Common.{◌≡◌, ◌+◌, length, length-set, ap, sym, ◌∙◌, subst, arith}
 use Rattle.leaf_defs.specs.Evaluated.{Evaluated}
 use Rattle.leaf_chain.specs.Growing.{with_chosen}
 use Rattle.miter_cnf.specs.Circuits.{Circuits}

@@ -1,7 +1,6 @@
-use Rattle.std.proofs.Common.{◌≡◌, ℕ, length, ap, sym, ◌∙◌, subst}
+use Rattle.std.proofs.Common.{◌≡◌, subst}
 use Rattle.miter_cnf.specs.Circuits.{Circuits, AreCircuits}
 use Rattle.miter_defs.specs.Numberings.{zero_variable}
-use Rattle.cell_defs.specs.Cells.{CellsValue}
 use Rattle.fabric_defs.specs.Geometries.{cell_count}
 use Rattle.miter_values.specs.Parts.{circuits_of, IsOfSomeNode, IsOfCells, IsDifference, IsSameAt}
 use Rattle.miter_values.proofs.InputLemmas.{zeroed_inputs, noded_inputs, celled_done, inputs_begin, inputs_grow, last_is_false, none_as}

@@ -1,13 +1,12 @@
-use Rattle.std.proofs.Common.{◌≡◌, ◌+◌, ◌<◌, ◌≤◌, ◌^◌, ◌==◌, ℕ, Bool, List, length, map, ap, sym, ◌∙◌, subst, arith}
+use Rattle.std.proofs.Common.{◌≡◌, ◌+◌, ◌<◌, ◌^◌, ◌==◌, List, length, map, ap, ◌∙◌, subst, arith}
 use Rattle.std.specs.Int.{bit_at}
-use Rattle.std.proofs.lemmas.List.Sums.{sum_by-take-le}
 use Rattle.pch_base.specs.BitLists.{word_of}
 use Rattle.cell_defs.specs.declared.source.Source.{Source}
 use Rattle.cell_defs.specs.declared.source.Source.TheVariants.{Cell}
-use Rattle.cell_defs.specs.Cells.{CellsValue, cell_at}
+use Rattle.cell_defs.specs.Cells.{cell_at}
 use Rattle.extract.specs.Kept.{AreCellsWithCone}
 use Rattle.miter_cnf.specs.Circuits.{Circuits}
-use Rattle.miter_defs.specs.Numberings.{cell_variable, cone_before, cone_size}
+use Rattle.miter_defs.specs.Numberings.{cell_variable}
 use Rattle.leaf_chain.specs.Growing.{IsWithout, with_implied}
 use Rattle.miter_values.specs.Parts.{circuits_of, source_value}
 use Rattle.miter_values.proofs.GrowLemmas.{grows_by}

@@ -1,13 +1,13 @@
-use Rattle.std.proofs.Common.{◌≡◌, ◌+◌, ◌<◌, ◌≤◌, ℕ, Bool, length, ap, sym, ◌∙◌, subst, arith}
+use Rattle.std.proofs.Common.{◌≡◌, ◌+◌, length, ap, sym, ◌∙◌, subst, arith}
 use Rattle.cell_defs.specs.Cones.{in_cone}
 use Rattle.fabric_defs.specs.Geometries.{cell_count, table_bits}
 use Rattle.extract.specs.Kept.{AreCellsWithCone}
 use Rattle.miter_cnf.specs.Circuits.{Circuits}
 use Rattle.miter_defs.specs.Numberings.{cell_variable}
 use Rattle.miter_values.specs.Parts.{circuits_of, IsOfCells}
-use Rattle.miter_values.proofs.GrowLemmas.{grows_both, grows_as}
-use Rattle.miter_values.proofs.ClauseNumbers.{cell_next, cell_none}
-use Rattle.miter_values.proofs.CellLemmas.{pins_known, cells_more, cells_none}
+use Rattle.miter_values.proofs.GrowLemmas.{grows_both}
+use Rattle.miter_values.proofs.ClauseNumbers.{cell_next}
+use Rattle.miter_values.proofs.CellLemmas.{pins_known, cells_more}
 use Rattle.miter_values.proofs.values.MiterValues.evaluate_cells.Goals as goal
 
 pub evaluate_cell-requires-clause-known : goal.evaluate_cell-requires-clause-known

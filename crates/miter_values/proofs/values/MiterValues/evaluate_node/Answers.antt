@@ -1,11 +1,11 @@
 use Rattle.std.proofs.Common.{◌≡◌, ◌+◌, ◌<◌, ◌≤◌, ℕ, Bool, Option, Some, None, length, ap, refl, sym, ◌∙◌, subst, inl, inr, arith}
 use Rattle.clause_defs.specs.Clauses.{Has}
-use Rattle.net_defs.specs.Networks.{Network, node_at, signals}
+use Rattle.net_defs.specs.Networks.{Network, node_at}
 use Rattle.miter_cnf.specs.Circuits.{Circuits}
 use Rattle.miter_defs.specs.Numberings.{node_variable, row_variable, variable_count}
 use Rattle.leaf_defs.specs.Evaluated.{Evaluated}
 use Rattle.leaf_chain.specs.Growing.{IsWithout, with_implied}
-use Rattle.miter_values.specs.Growing.{Grows, IsForced}
+use Rattle.miter_values.specs.Growing.{Grows}
 use Rattle.miter_values.specs.Parts.{circuits_of, IsRowOf, IsOfNode, IsHit, cover_place, node_value}
 use Rattle.miter_values.proofs.GrowLemmas.{grows_both, grows_by}
 use Rattle.miter_values.proofs.ClauseNumbers.{rows_few}

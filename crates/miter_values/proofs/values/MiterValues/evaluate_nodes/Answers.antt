@@ -1,11 +1,9 @@
-use Rattle.std.proofs.Common.{◌≡◌, ◌+◌, ◌<◌, ℕ, List, [], length, get_or, take, refl, ap, sym, ◌∙◌, subst, arith}
-use Rattle.net_defs.specs.Networks.{Network, node_at}
+use Rattle.std.proofs.Common.{◌+◌, [], get_or, take, refl, ◌∙◌, subst}
 use Rattle.net_defs.specs.Orders.{IsOrder}
 use Rattle.miter_cnf.specs.Circuits.{Circuits}
-use Rattle.miter_values.specs.Growing.{Grows}
 use Rattle.miter_values.specs.Parts.{circuits_of, IsOfNode, IsOfNodes, IsOfSomeNode}
 use Rattle.miter_values.proofs.GrowLemmas.{grows_none, grows_both, grows_as}
-use Rattle.miter_values.proofs.NodeLemmas.{order_within, order_known, order_fresh, nodes_more, nodes_all}
+use Rattle.miter_values.proofs.NodeLemmas.{order_known, order_fresh, nodes_more, nodes_all}
 use Rattle.miter_values.proofs.values.MiterValues.evaluate_nodes.Goals as goal
 
 pub loop-v-init : goal.loop-v-init

@@ -1,4 +1,4 @@
-use Rattle.std.proofs.Common.{◌≡◌, ◌+◌, ◌*◌, ◌<◌, ◌≤◌, ℕ, Bool, false, length, ap, sym, ◌∙◌, subst, arith}
+use Rattle.std.proofs.Common.{◌≡◌, ◌+◌, ◌*◌, ◌<◌, ℕ, false, length, ap, sym, ◌∙◌, subst, arith}
 use Rattle.miter_cnf.specs.Circuits.{Circuits}
 use Rattle.clause_defs.specs.Clauses.{Has}
 use Rattle.leaf_defs.specs.Evaluated.{Evaluated}
@@ -7,7 +7,7 @@ use Rattle.leaf_chain.specs.Growing.{IsWithout, with_implied}
 use Rattle.miter_places.specs.Places.{PlacesValue, first_of_output}
 use Rattle.miter_values.specs.Parts.{circuits_of, bit_of}
 use Rattle.miter_values.proofs.GrowLemmas.{grows_by}
-use Rattle.miter_values.proofs.CellLemmas.{bool_byte-is, bit_of-le}
+use Rattle.miter_values.proofs.CellLemmas.{bool_byte-is}
 use Rattle.miter_values.proofs.OutputLemmas.{output_step}
 use Rattle.miter_values.proofs.values.MiterValues.evaluate_output.Goals as goal
 

@@ -1,8 +1,7 @@
-use Rattle.std.proofs.Common.{◌≡◌, ◌<◌, ℕ, inl, inr, length, ap, sym, ◌∙◌, subst, arith}
+use Rattle.std.proofs.Common.{◌<◌, inl, length, ap, sym, ◌∙◌, subst, arith}
 use Rattle.miter_cnf.specs.Circuits.{Circuits, AreCircuits}
 use Rattle.miter_defs.specs.Numberings.{signal_variable, source_variable}
-use Rattle.net_defs.specs.Nets.{IsNet}
-use Rattle.miter_values.specs.Parts.{circuits_of, AreSame, DifferHere, output_signal, output_source}
+use Rattle.miter_values.specs.Parts.{AreSame, DifferHere, output_signal, output_source}
 use Rattle.miter_values.proofs.RowLemmas.{not_equal}
 use Rattle.miter_values.proofs.OutputLemmas.{signal_within, source_known, same_more}
 use Rattle.miter_values.proofs.values.MiterValues.evaluate_outputs.Goals as goal

@@ -1,17 +1,15 @@
-use Rattle.std.proofs.Common.{◌≡◌, ◌+◌, ◌<◌, ◌≤◌, ℕ, [], List, Bool, length, get_or, ap, sym, ◌∙◌, subst, arith}
+use Rattle.std.proofs.Common.{◌≡◌, ◌+◌, ◌<◌, ℕ, [], List, length, get_or, ap, ◌∙◌, subst, arith}
 use Rattle.std.proofs.lemmas.List.{get_or_default}
 use Rattle.blif_defs.specs.declared.mark.Mark.{Mark}
 use Rattle.clause_defs.specs.Clauses.{Has}
-use Rattle.net_defs.specs.Networks.{Network, node_at, signals}
-use Rattle.net_defs.specs.Nets.{IsNet, row_count}
+use Rattle.net_defs.specs.Networks.{Network, node_at}
+use Rattle.net_defs.specs.Nets.{IsNet}
 use Rattle.miter_cnf.specs.Circuits.{Circuits}
-use Rattle.miter_defs.specs.Numberings.{row_variable, rows_before, variable_count}
-use Rattle.miter_defs.specs.Miters.{literal, row_at}
-use Rattle.leaf_defs.specs.Evaluated.{Evaluated, value_of, clause_numbered}
+use Rattle.miter_defs.specs.Numberings.{row_variable, variable_count}
+use Rattle.miter_defs.specs.Miters.{row_at}
+use Rattle.leaf_defs.specs.Evaluated.{Evaluated}
 use Rattle.leaf_chain.specs.Growing.{IsWithout}
-use Rattle.miter_places.specs.Places.{first_of_row}
-use Rattle.miter_values.specs.Growing.{Grows, IsForced}
-use Rattle.miter_values.specs.Parts.{circuits_of, IsRowValue}
+use Rattle.miter_values.specs.Parts.{circuits_of}
 use Rattle.miter_values.proofs.GrowLemmas.{grows_by}
 use Rattle.miter_values.proofs.ClauseNumbers.{row_next}
 use Rattle.miter_values.proofs.NodeLemmas.{row_step, rows_within}

@@ -1,11 +1,10 @@
-use Rattle.std.proofs.Common.{◌≡◌, ◌+◌, ◌<◌, ◌≤◌, ℕ, List, length, get_or, ap, sym, ◌∙◌, subst, refl, inl, inr, arith}
+use Rattle.std.proofs.Common.{◌≡◌, ◌+◌, List, length, get_or, ap, sym, ◌∙◌, subst, inr, arith}
 use Rattle.blif_defs.specs.declared.mark.Mark.{Mark}
-use Rattle.net_defs.specs.Networks.{Network, node_at}
+use Rattle.net_defs.specs.Networks.{node_at}
 use Rattle.fabric_laws.proofs.NumberedLemmas.{length-list_of, get_or-list_of}
 use Rattle.miter_cnf.specs.Circuits.{Circuits}
 use Rattle.miter_defs.specs.Numberings.{row_variable}
-use Rattle.miter_places.specs.Places.{PlacesValue, first_of_node, first_of_row}
-use Rattle.miter_values.specs.Growing.{Grows}
+use Rattle.miter_places.specs.Places.{PlacesValue, first_of_node}
 use Rattle.miter_values.specs.Parts.{circuits_of, IsRowOf, IsHit}
 use Rattle.miter_values.proofs.GrowLemmas.{grows_none, grows_both}
 use Rattle.miter_values.proofs.ClauseNumbers.{rows_few}

@@ -1,4 +1,4 @@
-use Rattle.std.proofs.Common.{◌≡◌, ◌<◌, ◌≤◌, [], ◌∷◌, false, inl, inr, refl, sym, length, arith}
+use Rattle.std.proofs.Common.{[], ◌∷◌, false, inl, inr, refl, sym, arith}
 use Rattle.leaf_chain.specs.Growing.{IsWithout}
 use Rattle.leaf_defs.specs.Evaluated.{clause_numbered}
 use Rattle.miter_defs.specs.Numberings.{zero_variable}

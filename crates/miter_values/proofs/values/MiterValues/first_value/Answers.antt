@@ -1,5 +1,4 @@
-use Rattle.std.proofs.Common.{◌≡◌, ◌<◌, ap, sym, ◌∙◌, length, subst, slice_get, Some, arith}
-use Rattle.net_defs.specs.Networks.{signals}
+use Rattle.std.proofs.Common.{◌≡◌, ap, sym, ◌∙◌, subst, slice_get, Some, arith}
 use Rattle.net_defs.specs.Nets.{IsNet}
 use Rattle.net_defs.specs.Evaluation.{output_signals}
 use Rattle.leaf_defs.specs.Evaluated.{value_of}

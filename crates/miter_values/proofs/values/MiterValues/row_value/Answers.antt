@@ -1,4 +1,4 @@
-use Rattle.std.proofs.Common.{◌≡◌, ◌≢◌, ◌<◌, length, ap, sym, ◌∙◌, Bool, arith}
+use Rattle.std.proofs.Common.{◌<◌, length, ap, sym, ◌∙◌, arith}
 use Rattle.leaf_defs.specs.Evaluated.{value_of}
 use Rattle.miter_values.proofs.RowLemmas.{row_passes, row_goes_on, row_misses, asked_true, asked_false, not_equal, equal}
 use Rattle.miter_values.proofs.values.MiterValues.row_value.Goals as goal

@@ -1,6 +1,5 @@
-use Rattle.std.proofs.Common.{◌≡◌, ◌+◌, ◌-◌, ap, sym, ◌∙◌, length, arith}
+use Rattle.std.proofs.Common.{ap, ◌∙◌, length, arith}
 use Rattle.miter_cnf.specs.Circuits.{Circuits}
-use Rattle.miter_defs.specs.Numberings.{signal_variable}
 use Rattle.miter_values.proofs.values.MiterValues.signal.Goals as goal
 
 pub returns-else-s-inputs : goal.returns-else-s-inputs

@@ -1,4 +1,4 @@
-use Rattle.std.proofs.Common.{◌≡◌, ◌≤◌, ◌<◌, ℕ, ◌+◌, ◌-◌, length, get_or, map, drop, ap, sym, ◌∙◌, subst, arith}
+use Rattle.std.proofs.Common.{◌≡◌, ◌≤◌, ℕ, ◌+◌, ◌-◌, length, get_or, map, drop, ap, sym, ◌∙◌, subst, arith}
 use Rattle.pch_base.specs.BitLists.{word_of}
 use Rattle.clause_defs.specs.Clauses.{Has}
 use Rattle.cell_defs.specs.declared.source.Source.{Source}

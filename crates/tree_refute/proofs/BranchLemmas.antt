@@ -1,0 +1,2 @@
+-- Branches of the search.
+use Rattle.std.proofs.Common.{◌≡◌}

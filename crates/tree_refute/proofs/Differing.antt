@@ -26,10 +26,16 @@ use Rattle.miter_laws.specs.Extensions.{GivesBit}
 use Rattle.miter_laws.proofs.Assignment.{assignment, net_output, pad_output, gives_all, gives_source}
 use Rattle.miter_laws.proofs.Circuits.{Extended, circuits-hold}
 use Rattle.leaf_defs.specs.Evaluated.{Evaluated, value_of, true_literal, false_literal, variable_at, IsReason, IsEvaluated, clause_numbered}
-use Rattle.leaf_chain.proofs.RunningLemmas.{place_in, place_in_take}
+use Rattle.leaf_chain.proofs.RunningLemmas.{place_in_take}
 use Rattle.miter_values.specs.Parts.{circuits_of, bit_of, HasInputs, DifferHere, output_signal, output_source}
 use Rattle.miter_values.proofs.OutputLemmas.{signal_within, source_inside}
 use Rattle.tree_defs.specs.Trees.{DiffersAt}
+
+-- a member of a list stands at a place
+place_in : (xs : List ℕ) (v : ℕ) → Has xs v → (i : ℕ) × (i < length xs) × (get_or xs i 0 ≡ v)
+place_in [] v h = absurd h
+place_in (y ∷ ys) v (inl e) = (0, omega arith, e)
+place_in (y ∷ ys) v (inr h) = let rest = place_in ys v h in (suc rest.0, (let lt = rest.1 in omega arith), rest.2)
 
 bit_if : (b : Bool) → (if b then 1 else 0) ≡ bit_of b
 bit_if true = refl

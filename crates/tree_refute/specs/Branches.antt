@@ -8,6 +8,8 @@ use Rattle.miter_cnf.specs.Circuits.{Circuits, AreCircuits}
 use Rattle.miter_defs.specs.Numberings.{signal_variable, variable_count}
 use Rattle.miter_defs.specs.Miters.{Miter}
 use Rattle.log_defs.specs.Logs.{LogValue, Words, HasDerived, Extends, clause_of_log}
+use Rattle.log_defs.specs.declared.log_end.LogEnd.{LogEnd}
+use Rattle.log_defs.specs.declared.log_end.LogEnd.TheVariants.{Kept, Spent as OverBudget}
 use Rattle.tree_defs.specs.Trees.{HasNoEmpty, DiffersAt}
 use Rattle.tree_defs.specs.declared.tree_end.TreeEnd.{TreeEnd}
 use Rattle.tree_defs.specs.declared.tree_end.TreeEnd.TheVariants.{Empty, Differs, Spent}
@@ -56,3 +58,13 @@ BranchEnds c x i before (Err (Spent used need)) after = IsCut c i before after u
 -- the log of the miter of two circuits
 pub record IsOfMiter (c : Circuits) (log : LogValue) : Type 0 where
   pub originals : log.originals ≡ Miter c.net c.cells
+
+-- an end of the log as one of the search
+abbrev pub ended : Result ℕ LogEnd → Result ℕ TreeEnd
+ended (Ok index) = Ok index
+ended (Err (Kept index)) = Ok index
+ended (Err (OverBudget used need)) = Err (Spent used need)
+
+-- the clause has a literal of the variable
+abbrev pub HasVariable : Lits → ℕ → Type 0
+HasVariable c v = (l : Literal) × Has c l × (l.variable ≡ v)

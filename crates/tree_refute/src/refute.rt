@@ -1,3 +1,13 @@
+//! The search from its root.
+
+ghost use Rattle.std.specs.Prelude.{◌≡◌, IfOk};
+ghost use Rattle.cell_defs.specs.Cells.{CellsValue};
+ghost use Rattle.cell_defs.specs.Sources.{AreCellsOf};
+ghost use Rattle.log_defs.specs.Logs.{Extends};
+ghost use Rattle.miter_defs.specs.Equality.{FitsPads};
+ghost use Rattle.miter_defs.specs.Miters.{Miter};
+ghost use Rattle.tree_defs.specs.Trees.{TreeEnds};
+
 use crate::search::Search;
 use extract::extract;
 use fabric::Config;
@@ -16,7 +26,13 @@ pub fn tree(
     net: &Net,
     config: &Config,
     log: &mut Log,
-) -> Result<TreeEnd, NoMemory> {
+) -> Result<TreeEnd, NoMemory>
+    requires fits { FitsPads net.now config.now.geometry }
+    requires miter { (cells : CellsValue) → AreCellsOf config.now cells
+        → log.old.originals ≡ Miter net.now cells }
+    ensures ends { IfOk result (λ end. TreeEnds net.now config.now log.old end log.new) }
+    ensures extends { Extends log.old log.new }
+{
     let cells = extract(alloc, config)?;
     let mut search = Search::new(alloc, net, &cells, log)?;
     match search.branch(0, Bits::new(0, net.inputs()), log) {

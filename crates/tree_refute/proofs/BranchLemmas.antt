@@ -1,12 +1,15 @@
 -- Branches of the search.
-use Rattle.std.proofs.Common.{◌≡◌, ℕ, zero, suc, ◌+◌, ◌-◌, ◌==◌, ◌<◌, ◌≤◌, ◌⊎◌, inl, inr, Bool, true, false, not, List, [], ◌∷◌, ◌++◌, length, get_or, map, take, refl, sym, ◌∙◌, ap, subst, arith, length-append}
-use Rattle.std.proofs.lemmas.List.{append-nil, append_assoc, get_or_append_left}
+use Rattle.std.proofs.Common.{◌≡◌, ℕ, zero, suc, ◌+◌, ◌-◌, ◌==◌, ◌<◌, ◌≤◌, ◌⊎◌, inl, inr, Bool, true, false, not, Result, Ok, Err, List, [], ◌∷◌, ◌++◌, length, get_or, map, take, refl, sym, ◌∙◌, ap, subst, arith, length-append}
+use Rattle.std.proofs.lemmas.List.{append-nil, map-append, append_assoc, get_or_append_left}
 use Rattle.clause_defs.specs.Literals.{Literal}
 use Rattle.clause_defs.specs.Clauses.{Lits, Has, clause_of}
 use Rattle.log_defs.specs.Logs.{Derived, lits_of, all_clauses, clause_of_log, LogValue, Words, IsIndexOf, HasDerived, Extends}
 use Rattle.log_laws.proofs.LogLemmas.{clause_with-original, index_stays}
+use Rattle.chain_check.proofs.ClauseLists.{Has-take_more}
 use Rattle.leaf_defs.specs.Evaluated.{Evaluated, value_of, variable_at, false_literal, IsFalseAmong, IsReason, IsEvaluated, clause_numbered}
-use Rattle.leaf_chain.specs.Leaves.{IsEvaluatedIn, IsLeaf, IsLeafSpent, leaf_words}
+use Rattle.leaf_chain.specs.Leaves.{IsEvaluatedIn, IsLeaf, IsLeafSpent, LeafEnds, leaf_words}
+use Rattle.log_defs.specs.declared.log_end.LogEnd.{LogEnd}
+use Rattle.log_defs.specs.declared.log_end.LogEnd.TheVariants.{Kept, Spent as OverBudget}
 use Rattle.leaf_chain.proofs.RunningLemmas.{place_in_take, evaluated_few}
 use Rattle.miter_cnf.specs.Circuits.{Circuits, AreCircuits}
 use Rattle.miter_defs.specs.Numberings.{signal_variable, variable_count}
@@ -14,9 +17,9 @@ use Rattle.miter_defs.specs.Miters.{Miter, circuit_clauses, some_difference}
 use Rattle.miter_places.specs.Places.{number_of_last}
 use Rattle.miter_places.proofs.NumberLaws.{length-Miter, last_clause}
 use Rattle.miter_values.specs.Parts.{circuits_of, bit_of, HasInputs}
-use Rattle.miter_values.proofs.ClauseNumbers.{all_are, circuits-count}
+use Rattle.miter_values.proofs.ClauseNumbers.{circuits-count}
 use Rattle.tree_defs.specs.Trees.{HasNoEmpty}
-use Rattle.tree_refute.specs.Branches.{most_words, branch_words, IsUnder, IsBranch, IsCut, IsOfMiter}
+use Rattle.tree_refute.specs.Branches.{most_words, branch_words, IsUnder, IsBranch, IsCut, IsOfMiter, HasVariable, BranchEnds, ended}
 
 -- an evaluation by the first clauses of a list is one by all of them
 pub evaluated_more : (f g : List Lits) (e : Evaluated) → IsEvaluated f e → IsEvaluated (f ++ g) e
@@ -40,7 +43,7 @@ pub evaluated_in : (c : Circuits) (log : LogValue) (e : Evaluated) → IsOfMiter
 evaluated_in c log e of h =
     let last : List Lits = map clause_of (some_difference c.net c.cells ∷ []) in
     let all : all_clauses log.originals.clauses log.derived ≡ circuits_of c.net c.cells ++ (last ++ map lits_of log.derived) =
-    ap (λ (fs : List Lits). fs ++ map lits_of log.derived) (ap (λ f. f.clauses) of.originals ∙ all_are c.net c.cells)
+    ap (λ (fs : List Lits). fs ++ map lits_of log.derived) (ap (λ f. f.clauses) of.originals ∙ map-append clause_of (circuit_clauses c.net c.cells) (some_difference c.net c.cells ∷ []))
     ∙ append_assoc (circuits_of c.net c.cells) last (map lits_of log.derived) in
     subst (λ fs. IsEvaluated fs e) (sym all) (evaluated_more (circuits_of c.net c.cells) (last ++ map lits_of log.derived) e h)
 
@@ -125,3 +128,19 @@ extends_both a b c p q = record {
   more = p.more ++ q.more;
   derived = q.derived ∙ ap (λ ds. ds ++ q.more) p.derived ∙ append_assoc a.derived p.more q.more;
 }
+
+-- the clause has the variable or not, one literal later
+pub none_more : (k : Lits) (i v : ℕ) (l : Literal) → i < length k → l ≡ get_or k i l → (HasVariable (take i k) v → ⊥) → (l.variable ≡ v → ⊥)
+    → HasVariable (take (i + 1) k) v → ⊥
+none_more k i v l lt read none other h = elim ((Has-take_more k i l h.0 lt read).0 h.1) [
+  | inl old ↦ none (h.0, old, h.2)
+  | inr same ↦ other (ap (λ (m : Literal). m.variable) same ∙ h.2)
+]
+
+-- deriving the clause of a leaf ends the branch
+pub leaf_ends : (c : Circuits) (x : List ℕ) (i : ℕ) (e : Evaluated) (before after : LogValue) (r : Result ℕ LogEnd) → e.chosen ≡ i
+    → ((j : ℕ) → j < i → variable_at e.order j ≡ signal_variable j) → ((j : ℕ) → j < i → bit_of (value_of e.values (signal_variable j)) ≡ get_or x j 0)
+    → leaf_words e ≤ variable_count c.net c.cells + 4 → LeafEnds e before r after → BranchEnds c x i before (ended r) after
+leaf_ends c x i e before after (Ok index) chosen order bits few h = leaf_branch c x i e before after index chosen order bits (omega arith) h
+leaf_ends c x i e before after (Err (Kept index)) chosen order bits few h = absurd h
+leaf_ends c x i e before after (Err (OverBudget used need)) chosen order bits few h = leaf_cut c i e before after used need few h

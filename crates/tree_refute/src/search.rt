@@ -58,7 +58,12 @@ fn has_variable(log: &Log, index: u32, variable: u32) -> bool
     requires { IsIndexOf log.now index }
     ensures { IsTrue result ↔ HasVariable (clause_of_log log.now index) variable }
 {
-    log.clause(index).iter().any(|l| l.variable() == variable)
+    for l in log.clause(index) {
+        if l.variable() == variable {
+            return true;
+        }
+    }
+    false
 }
 
 impl<'a> Search<'a> {
@@ -114,7 +119,7 @@ impl<'a> Search<'a> {
         ensures circuits { self.new ≡ self.old }
         ensures ends { BranchEnds self.old x (length self.old.net.inputs) log.old result log.new }
     {
-        if self.values.evaluate(x, &mut self.evaluation).is_some() {
+        if let Some(_output) = self.values.evaluate(x, &mut self.evaluation) {
             return Err(TreeEnd::Differs { x });
         }
         ended(self.chains.derive_chosen(&self.evaluation, self.last, log))

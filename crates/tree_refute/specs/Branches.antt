@@ -28,36 +28,40 @@ abbrev pub IsUnder : List ℕ → ℕ → Lits → Type 0
 IsUnder x i c = (l : Literal) → Has c l
     → (j : ℕ) × (j < i) × (l ≡ record { variable = signal_variable j; positive = not (get_or x j 0 == 1) })
 
--- a branch below input i gives the clause with the index; an empty one is the last
-pub record IsBranch (c : Circuits) (x : List ℕ) (i : ℕ) (before after : LogValue) (index : ℕ) : Type 0 where
+-- A branch below input i gives the clause with the index, in so many words at most. An empty one is the last.
+pub record IsBranch (c : Circuits) (x : List ℕ) (i room : ℕ) (before after : LogValue) (index : ℕ) : Type 0 where
   pub log_is : Extends before after
   pub behind_originals : length after.originals.clauses < index
   pub within : index ≤ length after.originals.clauses + length after.derived
   pub under : IsUnder x i (clause_of_log after index)
   pub first_empty : HasNoEmpty before → (k : ℕ) → HasDerived after [] k
       → (k ≡ index) × (k ≡ length after.originals.clauses + length after.derived)
-  pub words : Words after.derived ≤ Words before.derived + branch_words (length c.net.inputs - i) (most_words c)
+  pub words : Words after.derived ≤ Words before.derived + room
 
 -- the next clause of the branch is over the budget
-pub record IsCut (c : Circuits) (i : ℕ) (before after : LogValue) (used need : ℕ) : Type 0 where
+pub record IsCut (c : Circuits) (room : ℕ) (before after : LogValue) (used need : ℕ) : Type 0 where
   pub log_is : Extends before after
   pub used_is : used ≡ Words after.derived
   pub need_low : 4 ≤ need
   pub need_high : need ≤ variable_count c.net c.cells + 4
   pub over : after.budget < used + need
-  pub scarce : after.budget < Words before.derived + branch_words (length c.net.inputs - i) (most_words c)
+  pub scarce : after.budget < Words before.derived + room
 
 -- the branch below input i ends so
-abbrev pub BranchEnds : Circuits → List ℕ → ℕ → LogValue → Result ℕ TreeEnd → LogValue → Type 0
-BranchEnds c x i before (Ok index) after = IsBranch c x i before after index
-BranchEnds c x i before (Err (Empty index)) after = ⊥
-BranchEnds c x i before (Err (Differs y)) after =
+abbrev pub BranchEnds : Circuits → List ℕ → ℕ → ℕ → LogValue → Result ℕ TreeEnd → LogValue → Type 0
+BranchEnds c x i room before (Ok index) after = IsBranch c x i room before after index
+BranchEnds c x i room before (Err (Empty index)) after = ⊥
+BranchEnds c x i room before (Err (Differs y)) after =
     Extends before after × ((config : ConfigValue) → IsConfig config → AreCellsOf config c.cells → DiffersAt c.net config y)
-BranchEnds c x i before (Err (Spent used need)) after = IsCut c i before after used need
+BranchEnds c x i room before (Err (Spent used need)) after = IsCut c room before after used need
 
 -- the log of the miter of two circuits
 pub record IsOfMiter (c : Circuits) (log : LogValue) : Type 0 where
   pub originals : log.originals ≡ Miter c.net c.cells
+
+-- the most words of the branch below input i
+abbrev pub room_below : Circuits → ℕ → ℕ
+room_below c i = branch_words (length c.net.inputs - i) (most_words c)
 
 -- an end of the log as one of the search
 abbrev pub ended : Result ℕ LogEnd → Result ℕ TreeEnd

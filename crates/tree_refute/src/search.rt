@@ -1,11 +1,13 @@
 //! The search, branch by branch.
 
-ghost use Rattle.std.specs.Prelude.{◌≡◌, ℕ, ◌+◌, ◌<◌, ◌≤◌, ◌↔◌, length, slice_set, IsTrue, IfOk};
+ghost use Rattle.std.specs.Prelude.{◌≡◌, ℕ, ◌+◌, ◌<◌, ◌≤◌, ◌↔◌, List, length, slice_set, IsTrue, IfOk};
+ghost use Rattle.clause_defs.specs.Clauses.{Lits};
 ghost use Rattle.fabric_defs.specs.Bits.{IsBits};
 ghost use Rattle.log_defs.specs.Logs.{IsIndexOf, clause_of_log};
 ghost use Rattle.miter_defs.specs.Equality.{FitsPads};
 ghost use Rattle.miter_defs.specs.Numberings.{signal_variable};
-ghost use Rattle.tree_refute.specs.Branches.{BranchEnds, IsUnder, IsOfMiter, HasVariable, ended};
+ghost use Rattle.miter_values.specs.Parts.{AreChosen};
+ghost use Rattle.tree_refute.specs.Branches.{BranchEnds, IsUnder, IsOfMiter, HasVariable, ended, most_words, room_below};
 
 use extract::Cells;
 use leaf_chain::{Chains, Evaluation};
@@ -53,6 +55,19 @@ fn ended(end: Result<u32, LogEnd>) -> Result<u32, TreeEnd>
     }
 }
 
+/// Chooses the bits `x` of the first `i` inputs.
+fn choose_first(i: u32, x: Bits, e: &mut Evaluation)
+    requires input { i ≤ length x }
+    requires places { i + 2 ≤ length e.old.values }
+    ensures chosen { (f : List Lits) → AreChosen f x i e.new }
+    ensures places { length e.new.values ≡ length e.old.values }
+{
+    e.clear();
+    for j in 0..i {
+        e.choose(FIRST_INPUT + j, x.get(j));
+    }
+}
+
 /// Whether a clause has a literal of the variable.
 fn has_variable(log: &Log, index: u32, variable: u32) -> bool
     requires { IsIndexOf log.now index }
@@ -96,7 +111,7 @@ impl<'a> Search<'a> {
         requires bits { IsBits (length self.old.net.inputs) x }
         requires miter { IsOfMiter self.old log.old }
         ensures circuits { self.new ≡ self.old }
-        ensures ends { BranchEnds self.old x i log.old result log.new }
+        ensures ends { BranchEnds self.old x i (room_below self.old i) log.old result log.new }
     {
         if i == self.inputs {
             return self.leaf(x, log);
@@ -117,7 +132,7 @@ impl<'a> Search<'a> {
         requires bits { IsBits (length self.old.net.inputs) x }
         requires miter { IsOfMiter self.old log.old }
         ensures circuits { self.new ≡ self.old }
-        ensures ends { BranchEnds self.old x (length self.old.net.inputs) log.old result log.new }
+        ensures ends { BranchEnds self.old x (length self.old.net.inputs) (most_words self.old) log.old result log.new }
     {
         if let Some(_output) = self.values.evaluate(x, &mut self.evaluation) {
             return Err(TreeEnd::Differs { x });
@@ -144,12 +159,9 @@ impl<'a> Search<'a> {
         requires second { IsIndexOf log.old second }
         requires second_under { IsUnder (slice_set x i 1) (i + 1) (clause_of_log log.old second) }
         ensures circuits { self.new ≡ self.old }
-        ensures ends { BranchEnds self.old x i log.old result log.new }
+        ensures ends { BranchEnds self.old x i (most_words self.old) log.old result log.new }
     {
-        self.evaluation.clear();
-        for j in 0..i {
-            self.evaluation.choose(FIRST_INPUT + j, x.get(j));
-        }
+        choose_first(i, x, &mut self.evaluation);
         self.evaluation.imply(FIRST_INPUT + i, true, first);
         ended(self.chains.derive_chosen(&self.evaluation, second, log))
     }

@@ -1,5 +1,5 @@
 -- Branches of the search.
-use Rattle.std.proofs.Common.{◌≡◌, ℕ, zero, suc, ◌+◌, ◌-◌, ◌==◌, ◌<◌, ◌≤◌, ◌⊎◌, inl, inr, Bool, true, false, not, Result, Ok, Err, List, [], ◌∷◌, ◌++◌, length, get_or, set, map, take, refl, sym, ◌∙◌, ap, subst, arith, length-append}
+use Rattle.std.proofs.Common.{◌≡◌, ℕ, zero, suc, ◌+◌, ◌-◌, ◌*◌, ◌^◌, ◌==◌, ◌<◌, ◌≤◌, ◌⊎◌, inl, inr, Bool, true, false, not, Result, Ok, Err, List, [], ◌∷◌, ◌++◌, length, get_or, set, map, take, refl, sym, ◌∙◌, ap, subst, arith, pow-suc, length-append, length-set}
 use Rattle.std.proofs.lemmas.Bool.{cases_lt}
 use Rattle.log_laws.proofs.TraceOfLemmas.{Has-get_or}
 use Rattle.leaf_chain.specs.Growing.{IsWithout, with_implied}
@@ -23,7 +23,12 @@ use Rattle.miter_places.proofs.NumberLaws.{length-Miter, last_clause}
 use Rattle.miter_values.specs.Parts.{circuits_of, bit_of, HasInputs, AreChosen}
 use Rattle.miter_values.proofs.ClauseNumbers.{circuits-count}
 use Rattle.tree_defs.specs.Trees.{HasNoEmpty}
-use Rattle.tree_refute.specs.Branches.{most_words, branch_words, IsUnder, IsBranch, IsCut, IsOfMiter, HasVariable, BranchEnds, ended}
+use Rattle.tree_refute.specs.Branches.{most_words, branch_words, IsUnder, IsBranch, IsCut, IsOfMiter, HasVariable, BranchEnds, ended, room_below}
+use Rattle.fabric_defs.specs.Bits.{IsBits}
+use Rattle.std.proofs.Math.Nat.{add-mul}
+use Rattle.tree_defs.specs.Budgets.{Enough}
+use Rattle.tree_defs.specs.declared.tree_end.TreeEnd.{TreeEnd}
+use Rattle.tree_defs.specs.declared.tree_end.TreeEnd.TheVariants.{Empty, Differs, Spent}
 
 -- an evaluation by the first clauses of a list is one by all of them
 pub evaluated_more : (f g : List Lits) (e : Evaluated) → IsEvaluated f e → IsEvaluated (f ++ g) e
@@ -137,7 +142,7 @@ bit_back : (b : Bool) (n : ℕ) → bit_of b ≡ n → not b ≡ not (n == 1)
 bit_back b n e = ap not (one_is b n e)
 
 module _ (x : List ℕ) (i first : ℕ) (f : List Lits) (e : Evaluated) (chosen : AreChosen f x i e) (within : i < length x) (places : i + 2 < length e.values) where
-  after : Evaluated
+  abbrev pub after : Evaluated
   after = with_implied e (signal_variable i) true first
 
   pub join_without : IsWithout e (signal_variable i)
@@ -200,6 +205,139 @@ module _ (x : List ℕ) (i first : ℕ) (f : List Lits) (e : Evaluated) (chosen 
             subst (λ (m : Literal). (m ≡ false_literal after.values m.variable) × Has after.order m.variable) (sym whole)
             (own, (grows.known (signal_variable i)).1 (inr refl))
       ]
+
+-- ---- one half after the other
+
+-- what half of the first inputs' bits doesn't change
+half_bit : (x y : List ℕ) (i b j : ℕ) → y ≡ set x i b → j < i → get_or y j 0 ≡ get_or x j 0
+half_bit x y i b j e lt = ap (λ (ys : List ℕ). get_or ys j 0) e ∙ get_or-set_other x i j b 0 (λ same. absurd (omega arith))
+
+-- a clause without input i is one of the inputs below
+under_without : (x y : List ℕ) (i b : ℕ) (k : Lits) → y ≡ set x i b → IsUnder y (i + 1) k → (HasVariable k (signal_variable i) → ⊥) → IsUnder x i k
+under_without x y i b k e under none l here =
+    let at = under l here in
+    elim (cases_lt at.0 i) [
+      | inl below ↦ (at.0, below, at.2 ∙ ap (λ n. literal (signal_variable at.0) (not (n == 1))) (half_bit x y i b at.0 e below))
+      | inr past ↦
+          let same : at.0 ≡ i = (let lt = at.1 in omega arith) in
+          absurd (none (l, here, ap (λ (m : Literal). m.variable) at.2 ∙ ap signal_variable same))
+    ]
+
+-- the words of a half and those above
+room_up : (c : Circuits) (i : ℕ) → i < length c.net.inputs → room_below c i ≡ room_below c (i + 1) + room_below c (i + 1) + most_words c
+room_up c i lt = ap (λ m. branch_words m (most_words c)) (let e : length c.net.inputs - i ≡ suc (length c.net.inputs - (i + 1)) = omega arith in e)
+
+room_end : (c : Circuits) → most_words c ≡ room_below c (length c.net.inputs)
+room_end c = ap (λ m. branch_words m (most_words c)) (let e : 0 ≡ length c.net.inputs - length c.net.inputs = omega arith in e)
+
+-- a log whose last clause isn't empty had none that is
+none_after : (c : Circuits) (y : List ℕ) (i room v : ℕ) (before after : LogValue) (index : ℕ) → IsBranch c y i room before after index
+    → HasVariable (clause_of_log after index) v → HasNoEmpty before → HasNoEmpty after
+none_after c y i room v before after index h has none k derived =
+    let at = h.first_empty none k derived in
+    (derived.same has.0).0 (subst (λ n. Has (clause_of_log after n) has.0) (sym at.0) has.1)
+
+-- the first half lacks the input
+pub first_lacks : (c : Circuits) (x y : List ℕ) (i b : ℕ) (before after : LogValue) (index : ℕ) → i < length c.net.inputs → y ≡ set x i b
+    → IsBranch c y (i + 1) (room_below c (i + 1)) before after index → (HasVariable (clause_of_log after index) (signal_variable i) → ⊥)
+    → IsBranch c x i (room_below c i) before after index
+first_lacks c x y i b before after index lt e h none = record {
+  log_is = h.log_is;
+  behind_originals = h.behind_originals;
+  within = h.within;
+  under = under_without x y i b (clause_of_log after index) e h.under none;
+  first_empty = h.first_empty;
+  words = let words = h.words in let room = room_up c i lt in omega arith;
+}
+
+-- the second half lacks it
+pub second_lacks : (c : Circuits) (x y z : List ℕ) (i b : ℕ) (before mid after : LogValue) (first index : ℕ) → i < length c.net.inputs → z ≡ set x i b
+    → IsBranch c y (i + 1) (room_below c (i + 1)) before mid first → HasVariable (clause_of_log mid first) (signal_variable i)
+    → IsBranch c z (i + 1) (room_below c (i + 1)) mid after index → (HasVariable (clause_of_log after index) (signal_variable i) → ⊥)
+    → IsBranch c x i (room_below c i) before after index
+second_lacks c x y z i b before mid after first index lt e p has q none = record {
+  log_is = extends_both before mid after p.log_is q.log_is;
+  behind_originals = q.behind_originals;
+  within = q.within;
+  under = under_without x z i b (clause_of_log after index) e q.under none;
+  first_empty = λ no. q.first_empty (none_after c y (i + 1) (room_below c (i + 1)) (signal_variable i) before mid first p has no);
+  words = let first_words = p.words in let words = q.words in let room = room_up c i lt in omega arith;
+}
+
+-- an end of a half is one of the whole, where there is room for more
+pub ends_later : (c : Circuits) (x y : List ℕ) (i j small room : ℕ) (before mid after : LogValue) (end : TreeEnd) → Extends before mid
+    → Words mid.derived + small ≤ Words before.derived + room → BranchEnds c y j small mid (Err end) after → BranchEnds c x i room before (Err end) after
+ends_later c x y i j small room before mid after (Empty index) ext le h = absurd h
+ends_later c x y i j small room before mid after (Differs z) ext le h = (extends_both before mid after ext h.0, h.1)
+ends_later c x y i j small room before mid after (Spent used need) ext le h = record {
+  log_is = extends_both before mid after ext h.log_is;
+  used_is = h.used_is;
+  need_low = h.need_low;
+  need_high = h.need_high;
+  over = h.over;
+  scarce = let scarce = h.scarce in omega arith;
+}
+
+-- both halves and the clause above them
+pub join_ends : (c : Circuits) (x y z : List ℕ) (i : ℕ) (before mid both after : LogValue) (first second : ℕ) (r : Result ℕ TreeEnd) → i < length c.net.inputs
+    → IsBranch c y (i + 1) (room_below c (i + 1)) before mid first → HasVariable (clause_of_log mid first) (signal_variable i)
+    → IsBranch c z (i + 1) (room_below c (i + 1)) mid both second → HasVariable (clause_of_log both second) (signal_variable i)
+    → BranchEnds c x i (most_words c) both r after → BranchEnds c x i (room_below c i) before r after
+join_ends c x y z i before mid both after first second (Ok index) lt p has q has_too h = record {
+  log_is = extends_both before both after (extends_both before mid both p.log_is q.log_is) h.log_is;
+  behind_originals = h.behind_originals;
+  within = h.within;
+  under = h.under;
+  first_empty = λ no.
+      h.first_empty (none_after c z (i + 1) (room_below c (i + 1)) (signal_variable i) mid both second q has_too
+      (none_after c y (i + 1) (room_below c (i + 1)) (signal_variable i) before mid first p has no));
+  words = let first_words = p.words in let second_words = q.words in let words = h.words in let room = room_up c i lt in omega arith;
+}
+join_ends c x y z i before mid both after first second (Err end) lt p has q has_too h =
+    ends_later c x x i i (most_words c) (room_below c i) before both after end (extends_both before mid both p.log_is q.log_is)
+    (let first_words = p.words in let second_words = q.words in let room = room_up c i lt in omega arith) h
+
+-- a leaf is a branch below the last input
+pub leaf_whole : (c : Circuits) (x : List ℕ) (i : ℕ) (before after : LogValue) (r : Result ℕ TreeEnd) → i ≡ length c.net.inputs
+    → BranchEnds c x (length c.net.inputs) (most_words c) before r after → BranchEnds c x i (room_below c i) before r after
+leaf_whole c x i before after r e h =
+    subst (λ n. BranchEnds c x n (room_below c n) before r after) (sym e)
+    (subst (λ m. BranchEnds c x (length c.net.inputs) m before r after) (room_end c) h)
+
+-- a member of a list with one element changed
+member : (xs : List ℕ) (i b v : ℕ) → Has (set xs i b) v → Has xs v ⊎ (v ≡ b)
+member [] i b v h = absurd h
+member (y ∷ ys) zero b v (inl e) = inr (sym e)
+member (y ∷ ys) zero b v (inr h) = inl (inr h)
+member (y ∷ ys) (suc i) b v (inl e) = inl (inl e)
+member (y ∷ ys) (suc i) b v (inr h) = elim (member ys i b v h) [ inl old ↦ inl (inr old) | inr same ↦ inr same ]
+
+-- the bits of a half are bits
+pub half_bits : (n : ℕ) (x y : List ℕ) (i b : ℕ) → y ≡ set x i b → b ≤ 1 → IsBits n x → IsBits n y
+half_bits n x y i b e small h = subst (IsBits n) (sym e) (record {
+  count = length-set x i b ∙ h.count;
+  bits = λ v here. elim (member x i b v here) [ inl old ↦ h.bits v old | inr same ↦ omega arith ];
+})
+
+-- ---- words enough
+
+branch_total : (m w : ℕ) → branch_words m w + w ≡ 2 ^ (m + 1) * w
+branch_total zero w = omega arith
+branch_total (suc m) w =
+    let rest = branch_total m w in
+    let power : 2 ^ (suc m + 1) * w ≡ 2 ^ (m + 1) * w + 2 ^ (m + 1) * w =
+    ap (λ n. n * w) (let e : suc m + 1 ≡ suc (m + 1) = omega arith in ap (λ n. 2 ^ n) e ∙ pow-suc 2 (m + 1) ∙ two (2 ^ (m + 1)))
+    ∙ add-mul (2 ^ (m + 1)) (2 ^ (m + 1)) w in
+    omega arith
+  where
+    two : (n : ℕ) → 2 * n ≡ n + n
+    two n = omega arith
+
+pub room-le-Enough : (c : Circuits) → room_below c 0 ≤ Enough (length c.net.inputs) (variable_count c.net c.cells)
+room-le-Enough c =
+    let total = branch_total (length c.net.inputs) (most_words c) in
+    let same = ap (λ m. branch_words m (most_words c)) (let e : length c.net.inputs - 0 ≡ length c.net.inputs = omega arith in e) in
+    omega arith
 
 -- the clause has the variable or not, one literal later
 pub none_more : (k : Lits) (i v : ℕ) (l : Literal) → i < length k → l ≡ get_or k i l → (HasVariable (take i k) v → ⊥) → (l.variable ≡ v → ⊥)

@@ -26,3 +26,9 @@ loop-j-preserved c =
           (chosen_more f c.args.x c.loop-j.j c.loop-j.e c.get.result (c.loop-j.invariant.chosen f) (omega (arith, c.loop-j.invariant.places, c.requires.places)) c.get.ensures);
       places = ap (λ (e : Evaluated). length e.values) c.choose.ensures ∙ length-set c.loop-j.e.values (signal_variable c.loop-j.j) c.get.result ∙ c.loop-j.invariant.places;
     }
+
+pub returns-clause-chosen : goal.returns-clause-chosen
+returns-clause-chosen c = λ f.
+    let test = c.loop-j-test.false in
+    let end = c.loop-j.auto.j-end in
+    subst (λ n. AreChosen f c.args.x n c.loop-j.e) (omega arith) (c.loop-j.invariant.chosen f)

@@ -330,7 +330,7 @@ branch_total (suc m) w =
     ∙ add-mul (2 ^ (m + 1)) (2 ^ (m + 1)) w in
     omega arith
   where
-    two : (n : ℕ) → 2 * n ≡ n + n
+    two : (n : ℕ) → n * 2 ≡ n + n
     two n = omega arith
 
 pub room-le-Enough : (c : Circuits) → room_below c 0 ≤ Enough (length c.net.inputs) (variable_count c.net c.cells)

@@ -22,7 +22,13 @@ use Rattle.miter_places.specs.Places.{number_of_last}
 use Rattle.miter_places.proofs.NumberLaws.{length-Miter, last_clause}
 use Rattle.miter_values.specs.Parts.{circuits_of, bit_of, HasInputs, AreChosen}
 use Rattle.miter_values.proofs.ClauseNumbers.{circuits-count}
-use Rattle.tree_defs.specs.Trees.{HasNoEmpty}
+use Rattle.tree_defs.specs.Trees.{HasNoEmpty, IsRefuted, TreeEnds}
+use Rattle.clause_defs.specs.Formulas.{Formula}
+use Rattle.fabric_defs.specs.Configurations.{ConfigValue, IsConfig}
+use Rattle.cell_defs.specs.Sources.{AreCellsOf}
+use Rattle.pch_base.specs.BitLists.{bits_of}
+use Rattle.pch_base.specs.BitWords.{length-bits_of}
+use Rattle.pch_base.proofs.BitLemmas.{bits_of-small}
 use Rattle.tree_refute.specs.Branches.{most_words, branch_words, IsUnder, IsBranch, IsCut, IsOfMiter, HasVariable, BranchEnds, ended, room_below}
 use Rattle.fabric_defs.specs.Bits.{IsBits}
 use Rattle.std.proofs.Math.Nat.{add-mul}
@@ -224,7 +230,7 @@ under_without x y i b k e under none l here =
     ]
 
 -- the words of a half and those above
-room_up : (c : Circuits) (i : ℕ) → i < length c.net.inputs → room_below c i ≡ room_below c (i + 1) + room_below c (i + 1) + most_words c
+pub room_up : (c : Circuits) (i : ℕ) → i < length c.net.inputs → room_below c i ≡ room_below c (i + 1) + room_below c (i + 1) + most_words c
 room_up c i lt = ap (λ m. branch_words m (most_words c)) (let e : length c.net.inputs - i ≡ suc (length c.net.inputs - (i + 1)) = omega arith in e)
 
 room_end : (c : Circuits) → most_words c ≡ room_below c (length c.net.inputs)
@@ -354,3 +360,43 @@ pub leaf_ends : (c : Circuits) (x : List ℕ) (i : ℕ) (e : Evaluated) (before 
 leaf_ends c x i e before after (Ok index) chosen order bits few h = leaf_branch c x i e before after index chosen order bits (omega arith) h
 leaf_ends c x i e before after (Err (Kept index)) chosen order bits few h = absurd h
 leaf_ends c x i e before after (Err (OverBudget used need)) chosen order bits few h = leaf_cut c e before after used need few h
+
+-- ---- the whole search
+
+-- a branch below no input is an empty clause
+pub root_refuted : (c : Circuits) (x : List ℕ) (before after : LogValue) (index : ℕ) → IsBranch c x 0 (room_below c 0) before after index → IsRefuted before after index
+root_refuted c x before after index h =
+    let empty : HasDerived after [] index = record {
+      behind_originals = h.behind_originals;
+      within = h.within;
+      same = λ l. (λ here. let at = h.under l here in let less = at.1 in absurd (omega arith), λ none. absurd none);
+    } in
+    record { empty = empty; last = λ none. (h.first_empty none index empty).1 }
+
+-- the other ends
+pub root_ends : (c : Circuits) (config : ConfigValue) (x : List ℕ) (before after : LogValue) (end : TreeEnd) → IsConfig config → AreCellsOf config c.cells → IsOfMiter c before
+    → BranchEnds c x 0 (room_below c 0) before (Err end) after → TreeEnds c.net config before end after
+root_ends c config x before after (Empty index) is_config of miter h = absurd h
+root_ends c config x before after (Differs y) is_config of miter h = h.1 config is_config of
+root_ends c config x before after (Spent used need) is_config of miter h =
+    let variables : after.originals.variables ≡ variable_count c.net c.cells = ap (λ (f : Formula). f.variables) (h.log_is.originals ∙ miter.originals) in
+    let enough = ap (Enough (length c.net.inputs)) variables in
+    let room = room-le-Enough c in
+    record {
+      used_is = h.used_is;
+      need_low = h.need_low;
+      need_high = let high = h.need_high in omega arith;
+      over = h.over;
+      scarce = let scarce = h.scarce in omega arith;
+    }
+
+-- whatever the end, the log has what it had
+pub ends_extend : (c : Circuits) (x : List ℕ) (i room : ℕ) (before after : LogValue) (r : Result ℕ TreeEnd) → BranchEnds c x i room before r after → Extends before after
+ends_extend c x i room before after (Ok index) h = h.log_is
+ends_extend c x i room before after (Err (Empty index)) h = absurd h
+ends_extend c x i room before after (Err (Differs y)) h = h.0
+ends_extend c x i room before after (Err (Spent used need)) h = h.log_is
+
+-- no bits are bits
+pub zero_bits : (n : ℕ) → IsBits n (bits_of n 0)
+zero_bits n = record { count = length-bits_of n 0; bits = λ b here. bits_of-small n 0 b here }

@@ -33,6 +33,7 @@ pub fn tree(
     ensures ends { IfOk result (λ end. TreeEnds net.now config.now log.old end log.new) }
     ensures extends { Extends log.old log.new }
 {
+    let _geometry = config.geometry();
     let cells = extract(alloc, config)?;
     let mut search = Search::new(alloc, net, &cells, log)?;
     match search.branch(0, Bits::new(0, net.inputs()), log) {

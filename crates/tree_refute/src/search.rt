@@ -120,7 +120,10 @@ impl<'a> Search<'a> {
         if !has_variable(log, first, FIRST_INPUT + i) {
             return Ok(first);
         }
-        let second = self.branch(i + 1, x.with(i, true), log)?;
+        let second = match self.branch(i + 1, x.with(i, true), log) {
+            Ok(second) => second,
+            Err(end) => return Err(end),
+        };
         if !has_variable(log, second, FIRST_INPUT + i) {
             return Ok(second);
         }

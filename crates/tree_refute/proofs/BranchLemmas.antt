@@ -7,20 +7,20 @@ use Rattle.miter_values.specs.Growing.{IsFalseIn, IsForced, Grows}
 use Rattle.std.proofs.lemmas.List.{get_or-set_same, get_or-set_other, append-nil, map-append, append_assoc, get_or_append_left}
 use Rattle.clause_defs.specs.Literals.{Literal}
 use Rattle.clause_defs.specs.Clauses.{Lits, Has, clause_of}
-use Rattle.log_defs.specs.Logs.{Derived, lits_of, all_clauses, clause_of_log, LogValue, Words, IsIndexOf, HasDerived, Extends}
-use Rattle.log_laws.proofs.LogLemmas.{clause_with-original, index_stays}
+use Rattle.log_defs.specs.Logs.{lits_of, all_clauses, clause_of_log, LogValue, Words, IsIndexOf, HasDerived, Extends}
+use Rattle.log_laws.proofs.LogLemmas.{clause_with-original}
 use Rattle.chain_check.proofs.ClauseLists.{Has-take_more}
 use Rattle.leaf_defs.specs.Evaluated.{Evaluated, value_of, variable_at, false_literal, IsFalseAmong, IsReason, IsEvaluated, clause_numbered}
 use Rattle.leaf_chain.specs.Leaves.{IsEvaluatedIn, IsLeaf, IsLeafSpent, LeafEnds, leaf_words}
 use Rattle.log_defs.specs.declared.log_end.LogEnd.{LogEnd}
 use Rattle.log_defs.specs.declared.log_end.LogEnd.TheVariants.{Kept, Spent as OverBudget}
-use Rattle.leaf_chain.proofs.RunningLemmas.{place_in_take, evaluated_few}
-use Rattle.miter_cnf.specs.Circuits.{Circuits, AreCircuits}
+use Rattle.leaf_chain.proofs.RunningLemmas.{place_in_take}
+use Rattle.miter_cnf.specs.Circuits.{Circuits}
 use Rattle.miter_defs.specs.Numberings.{signal_variable, variable_count}
 use Rattle.miter_defs.specs.Miters.{literal, Miter, circuit_clauses, some_difference}
 use Rattle.miter_places.specs.Places.{number_of_last}
 use Rattle.miter_places.proofs.NumberLaws.{length-Miter, last_clause}
-use Rattle.miter_values.specs.Parts.{circuits_of, bit_of, HasInputs, AreChosen}
+use Rattle.miter_values.specs.Parts.{circuits_of, bit_of, AreChosen}
 use Rattle.miter_values.proofs.ClauseNumbers.{circuits-count}
 use Rattle.tree_defs.specs.Trees.{HasNoEmpty, IsRefuted, TreeEnds}
 use Rattle.clause_defs.specs.Formulas.{Formula}
@@ -72,9 +72,9 @@ last_in c log last of at =
     let index : IsIndexOf log last = record { low = omega arith; high = omega arith } in (
       index,
       clause_with-original log.originals.clauses log.derived last (omega arith) (omega arith)
-      ∙ ap (λ (fs : List Lits). clause_numbered fs last) (ap (λ f. f.clauses) of.originals)
-      ∙ ap (clause_numbered (Miter c.net c.cells).clauses) at
-      ∙ last_clause c.net c.cells,
+          ∙ ap (λ (fs : List Lits). clause_numbered fs last) (ap (λ f. f.clauses) of.originals)
+          ∙ ap (clause_numbered (Miter c.net c.cells).clauses) at
+          ∙ last_clause c.net c.cells,
     )
 
 not_not : (b : Bool) → not (not b) ≡ b
@@ -91,10 +91,12 @@ pub under_from : (x : List ℕ) (i : ℕ) (e : Evaluated) (k : Lits) → ((j : �
 under_from x i e k order bits all_false l here =
     let own = all_false l here in
     let at = place_in_take e.order i l.variable own.1 in
-    let variable : l.variable ≡ signal_variable at.0 = sym at.3 ∙ order at.0 at.1 in
-    (at.0, at.1,
-    own.0 ∙ ap (λ v. record { variable = v; positive = not (value_of e.values v) }) variable
-    ∙ ap (λ b. record { variable = signal_variable at.0; positive = not b }) (one_is (value_of e.values (signal_variable at.0)) (get_or x at.0 0) (bits at.0 at.1)))
+    let variable : l.variable ≡ signal_variable at.0 = sym at.3 ∙ order at.0 at.1 in (
+      at.0,
+      at.1,
+      own.0 ∙ ap (λ v. record { variable = v; positive = not (value_of e.values v) }) variable
+          ∙ ap (λ b. record { variable = signal_variable at.0; positive = not b }) (one_is (value_of e.values (signal_variable at.0)) (get_or x at.0 0) (bits at.0 at.1)),
+    )
 
 -- a chain that ends in a clause of the first i inputs is a branch
 pub leaf_branch : (c : Circuits) (x : List ℕ) (i : ℕ) (e : Evaluated) (before after : LogValue) (index : ℕ) → e.chosen ≡ i
@@ -162,17 +164,17 @@ module _ (x : List ℕ) (i first : ℕ) (f : List Lits) (e : Evaluated) (chosen 
   join_forced k under has =
       let own : (l : Literal) → Has k l → (l ≡ literal (signal_variable i) true) ⊎ IsFalseIn e l =
       λ l here.
-          let at = under l here in
-          elim (cases_lt at.0 i) [
-            | inl below ↦ inr (subst (IsFalseIn e) (sym at.2) (record {
-              known = join_known at.0 below;
-              value = value_of_input at.0 below;
-            }))
-            | inr past ↦
-                let same : at.0 ≡ i = (let lt = at.1 in omega arith) in
-                inl (at.2 ∙ ap (λ j. literal (signal_variable j) (not (get_or (set x i 0) j 0 == 1))) same
-                ∙ ap (λ n. literal (signal_variable i) (not (n == 1))) (get_or-set_same x i 0 0 within))
-          ] in
+      let at = under l here in
+      elim (cases_lt at.0 i) [
+        | inl below ↦ inr (subst (IsFalseIn e) (sym at.2) (record {
+          known = join_known at.0 below;
+          value = value_of_input at.0 below;
+        }))
+        | inr past ↦
+            let same : at.0 ≡ i = (let lt = at.1 in omega arith) in
+            inl (at.2 ∙ ap (λ j. literal (signal_variable j) (not (get_or (set x i 0) j 0 == 1))) same
+            ∙ ap (λ n. literal (signal_variable i) (not (n == 1))) (get_or-set_same x i 0 0 within))
+      ] in
       record {
         implied = elim (own has.0 has.1) [
           | inl same ↦ subst (Has k) same has.1

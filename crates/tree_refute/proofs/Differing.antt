@@ -1,31 +1,28 @@
 -- Values that differ are outputs that differ.
-use Rattle.std.proofs.Common.{◌≡◌, ◌≢◌, ℕ, zero, suc, ◌+◌, ◌-◌, ◌<◌, ◌≤◌, ◌⊎◌, inl, inr, Bool, true, false, not, if◌then◌else◌, List, [], ◌∷◌, length, map, get_or, take, slice_get, Some, refl, sym, ◌∙◌, ap, subst, arith}
+use Rattle.std.proofs.Common.{◌≡◌, ℕ, zero, suc, ◌-◌, ◌<◌, inl, inr, Bool, true, false, not, if◌then◌else◌, List, [], ◌∷◌, length, get_or, take, slice_get, Some, refl, sym, ◌∙◌, ap, subst, arith}
 use Rattle.std.proofs.lemmas.Bool.{cases_lt}
-use Rattle.std.proofs.lemmas.List.{length-map, get_or-map, get_or-take, get_or_default}
+use Rattle.std.proofs.lemmas.List.{length-map, get_or-map, get_or-take}
 use Rattle.clause_defs.specs.Literals.{Literal}
 use Rattle.clause_defs.specs.Clauses.{Lits, Has, Satisfies, IsTrueUnder}
 use Rattle.clause_laws.proofs.LiteralLemmas.{literal_cases}
 use Rattle.log_laws.proofs.TraceOfLemmas.{Has-get_or}
-use Rattle.net_defs.specs.Networks.{Output, Network, signals}
-use Rattle.net_defs.specs.Nets.{IsNet}
+use Rattle.net_defs.specs.Networks.{Output}
 use Rattle.net_defs.specs.Evaluation.{Settles, output_signals, bits_at}
 use Rattle.net_defs.proofs.AssignmentLemmas.{assignment_exists}
 use Rattle.fabric_defs.specs.Bits.{IsBits}
 use Rattle.fabric_defs.specs.Configurations.{ConfigValue, IsConfig}
-use Rattle.cell_defs.specs.declared.source.Source.TheVariants.{Zero, Cell}
-use Rattle.cell_defs.specs.Cells.{CellsValue, AreCells}
-use Rattle.cell_defs.specs.Cones.{in_cone}
+use Rattle.cell_defs.specs.declared.source.Source.TheVariants.{Zero}
 use Rattle.cell_defs.specs.Sources.{AreCellsOf}
 use Rattle.cell_defs.specs.Evaluation.{source_bit, output_bits, CellBits}
 use Rattle.cell_laws.proofs.CellEquations.{bits-exist}
-use Rattle.cell_laws.proofs.CellsLemmas.{cells_of_config, some_wiring, cells-outputs}
+use Rattle.cell_laws.proofs.CellsLemmas.{some_wiring, cells-outputs}
 use Rattle.miter_cnf.specs.Circuits.{Circuits, AreCircuits}
 use Rattle.miter_defs.specs.Numberings.{signal_variable, source_variable}
-use Rattle.miter_defs.specs.Miters.{no_output, circuit_clauses}
+use Rattle.miter_defs.specs.Miters.{no_output}
 use Rattle.miter_laws.specs.Extensions.{GivesBit}
-use Rattle.miter_laws.proofs.Assignment.{assignment, net_output, pad_output, gives_all, gives_source}
+use Rattle.miter_laws.proofs.Assignment.{assignment, gives_all, gives_source}
 use Rattle.miter_laws.proofs.Circuits.{Extended, circuits-hold}
-use Rattle.leaf_defs.specs.Evaluated.{Evaluated, value_of, true_literal, false_literal, variable_at, IsReason, IsEvaluated, clause_numbered}
+use Rattle.leaf_defs.specs.Evaluated.{Evaluated, value_of, true_literal, variable_at, IsReason, IsEvaluated, clause_numbered}
 use Rattle.leaf_chain.proofs.RunningLemmas.{place_in_take}
 use Rattle.miter_values.specs.Parts.{circuits_of, bit_of, HasInputs, DifferHere, output_signal, output_source}
 use Rattle.miter_values.proofs.OutputLemmas.{signal_within, source_inside}
@@ -118,8 +115,8 @@ module _ (c : Circuits) (config : ConfigValue) (x : List ℕ) (e : Evaluated) (a
         forced_given (take i e.order) (variable_at e.order i) (clause_numbered f number) (evaluated.reasons i past within)
         (circuits-hold c.net c.cells x settled.0 celled.0 whole extended (clause_numbered f number) (Has-get_or f (number - 1) [] (omega arith)))
         (λ u here.
-            let at = place_in_take e.order i u here in
-            subst (λ v. GivesBit whole v (bit_of (value_of e.values v))) at.3 (all_given n at.0 (let less = at.1 in omega arith) at.2))
+        let at = place_in_take e.order i u here in
+        subst (λ v. GivesBit whole v (bit_of (value_of e.values v))) at.3 (all_given n at.0 (let less = at.1 in omega arith) at.2))
   ]
 
   known_given : (v : ℕ) → Has e.order v → Given v
@@ -150,12 +147,12 @@ module _ (c : Circuits) (config : ConfigValue) (x : List ℕ) (e : Evaluated) (a
         of_network = (s, settled.1, refl);
         of_fabric = (w.0, w.1, cells-outputs config c.cells x b w.0 is_config of.sources w.1 celled.1);
         other = λ same. h.other (same_bits _ _ (
-          first
-          ∙ sym (ap (λ i. get_or s i 0) (get_or-map (λ (p : Output). p.signal) c.net.outputs o no_output 0 h.within))
-          ∙ sym (get_or-map (λ i. get_or s i 0) (output_signals c.net) o 0 0 (let lt = h.within in omega (arith, length-map c.net.outputs (λ (p : Output). p.signal))))
-          ∙ ap (λ ys. get_or ys o 0) (sym same)
-          ∙ get_or-take (length c.net.outputs) pads o 0 h.within
-          ∙ get_or-map (source_bit x b) c.cells.outputs o Zero 0 (let lt = h.within in omega arith)
-          ∙ sym second
-        ));
+            first
+            ∙ sym (ap (λ i. get_or s i 0) (get_or-map (λ (p : Output). p.signal) c.net.outputs o no_output 0 h.within))
+            ∙ sym (get_or-map (λ i. get_or s i 0) (output_signals c.net) o 0 0 (let lt = h.within in omega (arith, length-map c.net.outputs (λ (p : Output). p.signal))))
+            ∙ ap (λ ys. get_or ys o 0) (sym same)
+            ∙ get_or-take (length c.net.outputs) pads o 0 h.within
+            ∙ get_or-map (source_bit x b) c.cells.outputs o Zero 0 (let lt = h.within in omega arith)
+            ∙ sym second
+            ));
       }

@@ -4,7 +4,7 @@ use Rattle.clause_defs.specs.Literals.{Literal}
 use Rattle.clause_defs.specs.Clauses.{Lits, Has}
 use Rattle.fabric_defs.specs.Configurations.{ConfigValue, IsConfig}
 use Rattle.cell_defs.specs.Sources.{AreCellsOf}
-use Rattle.miter_cnf.specs.Circuits.{Circuits, AreCircuits}
+use Rattle.miter_cnf.specs.Circuits.{Circuits}
 use Rattle.miter_defs.specs.Numberings.{signal_variable, variable_count}
 use Rattle.miter_defs.specs.Miters.{Miter}
 use Rattle.log_defs.specs.Logs.{LogValue, Words, HasDerived, Extends, clause_of_log}

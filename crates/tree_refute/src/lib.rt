@@ -6,10 +6,7 @@
 //! definitions of the ends stand in `tree_defs`.
 #![tactic(auto)]
 
-mod search;
 mod refute;
+mod search;
 
 pub use refute::tree;
-
-#[cfg(test)]
-mod tests;

@@ -21,12 +21,7 @@ use tree_defs::TreeEnd;
 /// originals.
 ///
 /// After any end, want of memory too, the log keeps what it had and may have more clauses.
-pub fn tree(
-    alloc: Global,
-    net: &Net,
-    config: &Config,
-    log: &mut Log,
-) -> Result<TreeEnd, NoMemory>
+pub fn tree(alloc: Global, net: &Net, config: &Config, log: &mut Log) -> Result<TreeEnd, NoMemory>
     requires fits { FitsPads net.now config.now.geometry }
     requires miter { (cells : CellsValue) → AreCellsOf config.now cells
         → log.old.originals ≡ Miter net.now cells }

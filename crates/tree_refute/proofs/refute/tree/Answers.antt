@@ -1,12 +1,9 @@
-use Rattle.std.proofs.Common.{◌≡◌, ℕ, List, Result, Ok, Err, length, sym, subst, ap, ◌∙◌}
-use Rattle.cell_defs.specs.Sources.{AreCellsOf}
+use Rattle.std.proofs.Common.{◌≡◌, Err, length, sym, subst, ap, ◌∙◌}
 use Rattle.fabric_defs.specs.Bits.{IsBits}
-use Rattle.log_defs.specs.Logs.{LogValue, Extends}
 use Rattle.miter_cnf.specs.Circuits.{Circuits}
-use Rattle.tree_defs.specs.Trees.{TreeEnds}
-use Rattle.tree_refute.specs.Branches.{BranchEnds, IsBranch, IsOfMiter, room_below}
+use Rattle.tree_refute.specs.Branches.{BranchEnds, room_below}
 use Rattle.pch_base.specs.BitLists.{bits_of}
-use Rattle.tree_refute.proofs.BranchLemmas.{root_refuted, root_ends, ends_extend, zero_bits}
+use Rattle.tree_refute.proofs.BranchLemmas.{root_refuted, root_ends, zero_bits}
 use Rattle.tree_refute.proofs.refute.tree.Goals as goal
 
 pub branch-index-requires-clause-bits : goal.branch-index-requires-clause-bits

@@ -1,7 +1,5 @@
-use Rattle.std.proofs.Common.{◌≡◌, ◌+◌, ◌<◌, ℕ, List, [], length, length-set, ap, sym, ◌∙◌, subst, arith}
-use Rattle.clause_defs.specs.Clauses.{Lits}
+use Rattle.std.proofs.Common.{◌+◌, [], length, length-set, ap, sym, ◌∙◌, subst, arith}
 use Rattle.leaf_defs.specs.Evaluated.{Evaluated}
-use Rattle.leaf_chain.specs.Growing.{with_chosen}
 use Rattle.miter_defs.specs.Numberings.{signal_variable}
 use Rattle.miter_values.specs.Parts.{AreChosen}
 use Rattle.miter_values.proofs.InputLemmas.{chosen_none, chosen_fresh, chosen_more}

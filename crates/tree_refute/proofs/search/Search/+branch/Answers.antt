@@ -1,11 +1,10 @@
-use Rattle.std.proofs.Common.{◌≡◌, ◌≢◌, ◌+◌, ◌-◌, ◌<◌, ◌≤◌, ℕ, List, Result, Ok, Err, true, false, length, set, ap, sym, ◌∙◌, subst, refl, arith}
+use Rattle.std.proofs.Common.{◌≡◌, ◌+◌, ◌<◌, ℕ, List, Err, true, false, length, set, ap, sym, ◌∙◌, subst, arith}
 use Rattle.clause_defs.specs.Clauses.{Lits}
 use Rattle.fabric_defs.specs.Bits.{IsBits}
-use Rattle.log_defs.specs.Logs.{LogValue, IsIndexOf, clause_of_log}
+use Rattle.log_defs.specs.Logs.{IsIndexOf, clause_of_log}
 use Rattle.log_laws.proofs.LogLemmas.{clause_stays}
 use Rattle.miter_cnf.specs.Circuits.{Circuits}
 use Rattle.miter_defs.specs.Numberings.{signal_variable}
-use Rattle.tree_defs.specs.declared.tree_end.TreeEnd.{TreeEnd}
 use Rattle.tree_refute.specs.Branches.{BranchEnds, IsBranch, IsUnder, IsOfMiter, HasVariable, room_below, most_words}
 use Rattle.tree_refute.proofs.BranchLemmas.{first_lacks, second_lacks, join_ends, half_bits, ends_later, room_up}
 use Rattle.tree_refute.proofs.search.Search.+branch.Goals as goal

@@ -1,21 +1,19 @@
-use Rattle.std.proofs.Common.{◌≡◌, ◌+◌, ◌<◌, ◌≤◌, ℕ, true, List, [], ◌∷◌, Result, length, get_or, ap, sym, ◌∙◌, subst, refl, inl, arith}
+use Rattle.std.proofs.Common.{◌≡◌, ◌+◌, ◌<◌, ◌≤◌, ℕ, true, [], ◌∷◌, Result, length, ap, sym, ◌∙◌, subst, arith}
 use Rattle.std.proofs.lemmas.List.{get_or_append_left}
-use Rattle.clause_defs.specs.Clauses.{Lits, Has}
-use Rattle.log_defs.specs.Logs.{LogValue, all_clauses, clause_of_log, IsIndexOf}
+use Rattle.clause_defs.specs.Clauses.{Has}
+use Rattle.log_defs.specs.Logs.{all_clauses, clause_of_log}
 use Rattle.log_laws.proofs.LogLemmas.{length-all_clauses}
 use Rattle.log_laws.proofs.TraceOfLemmas.{Has-get_or}
-use Rattle.leaf_defs.specs.Evaluated.{Evaluated, value_of, variable_at, IsEvaluated, IsFalseAmong}
+use Rattle.leaf_defs.specs.Evaluated.{Evaluated, IsEvaluated, IsFalseAmong}
 use Rattle.leaf_chain.specs.Growing.{with_implied}
 use Rattle.leaf_chain.specs.Leaves.{LeafEnds}
 use Rattle.leaf_chain.proofs.RunningLemmas.{evaluated_few}
 use Rattle.miter_cnf.specs.Circuits.{Circuits}
 use Rattle.miter_defs.specs.Numberings.{signal_variable, variable_count}
-use Rattle.miter_values.specs.Growing.{Grows}
-use Rattle.miter_values.specs.Parts.{bit_of, AreChosen}
+use Rattle.miter_values.specs.Parts.{bit_of}
 use Rattle.miter_values.proofs.GrowLemmas.{grows_implied, implied_value}
 use Rattle.tree_defs.specs.declared.tree_end.TreeEnd.{TreeEnd}
-use Rattle.tree_refute.specs.Branches.{BranchEnds, ended, most_words}
-use Rattle.tree_refute.specs.Rooms.{HasRoom}
+use Rattle.tree_refute.specs.Branches.{BranchEnds, most_words}
 use Rattle.tree_refute.proofs.BranchLemmas.{join_without, join_forced, join_false, leaf_ends}
 use Rattle.tree_refute.proofs.search.Search.join.Goals as goal
 
@@ -100,6 +98,6 @@ returns-clause-ends c =
     (leaf_ends t x i after log c.derive_chosen.new.log c.derive_chosen.result chosen.chosen
     (λ j lt. get_or_append_left e.order (signal_variable i ∷ []) 0 j (let count = chosen.count in omega arith) ∙ chosen.order j lt)
     (λ j lt.
-        let known : Has e.order (signal_variable j) = subst (Has e.order) (chosen.order j lt) (Has-get_or e.order j 0 (let count = chosen.count in omega arith)) in
-        ap bit_of (grows.values (signal_variable j) known) ∙ chosen.bits j lt)
+    let known : Has e.order (signal_variable j) = subst (Has e.order) (chosen.order j lt) (Has-get_or e.order j 0 (let count = chosen.count in omega arith)) in
+    ap bit_of (grows.values (signal_variable j) known) ∙ chosen.bits j lt)
     (let same = grows.places in omega arith) ends)

@@ -1,17 +1,13 @@
-use Rattle.std.proofs.Common.{◌≡◌, ◌+◌, ◌<◌, ◌≤◌, ℕ, Result, length, ap, sym, ◌∙◌, subst, arith, refl}
-use Rattle.clause_defs.specs.Clauses.{Lits}
-use Rattle.log_defs.specs.Logs.{clause_of_log}
-use Rattle.log_defs.specs.declared.log_end.LogEnd.{LogEnd}
+use Rattle.std.proofs.Common.{◌≡◌, ◌+◌, ℕ, Result, length, ap, sym, ◌∙◌, subst, arith}
 use Rattle.log_laws.proofs.LogLemmas.{extends_refl}
 use Rattle.leaf_defs.specs.Evaluated.{IsFalseAmong}
-use Rattle.leaf_chain.specs.Leaves.{LeafEnds}
 use Rattle.leaf_chain.proofs.RunningLemmas.{evaluated_few}
 use Rattle.miter_cnf.specs.Circuits.{Circuits, AreCircuits}
 use Rattle.miter_defs.specs.Numberings.{variable_count}
 use Rattle.miter_places.specs.Places.{number_of_last}
 use Rattle.miter_values.specs.Parts.{circuits_of, HasInputs, IsSameAt, IsOtherAt}
 use Rattle.tree_defs.specs.declared.tree_end.TreeEnd.{TreeEnd}
-use Rattle.tree_refute.specs.Branches.{BranchEnds, ended, most_words}
+use Rattle.tree_refute.specs.Branches.{BranchEnds, most_words}
 use Rattle.tree_refute.proofs.Differing.{differs_at}
 use Rattle.tree_refute.proofs.BranchLemmas.{evaluated_in, last_in, leaf_ends}
 use Rattle.tree_refute.proofs.search.Search.leaf.Goals as goal
@@ -22,9 +18,11 @@ returns-in-Some-clause-ends c =
     let e = c.evaluate.new.e in
     let are = subst (λ (u : Circuits). AreCircuits u.net u.cells) c.self.view_is c.self.invariant.are in
     let inputs = subst (λ (u : Circuits). HasInputs u.net c.args.x e) c.self.view_is c.evaluate.ensures.inputs in
-    let other = subst (λ (u : Circuits). IsOtherAt u e c.in-Some._output) c.self.view_is c.in-Some.ensures.some in
-    (extends_refl c.args.log.now, λ config is_config of.
-        differs_at t config c.args.x e are is_config of c.requires.bits inputs other.evaluated c.in-Some._output other.differ)
+    let other = subst (λ (u : Circuits). IsOtherAt u e c.in-Some._output) c.self.view_is c.in-Some.ensures.some in (
+      extends_refl c.args.log.now,
+      λ config is_config of.
+          differs_at t config c.args.x e are is_config of c.requires.bits inputs other.evaluated c.in-Some._output other.differ,
+    )
 
 pub derive_chosen-requires-clause-evaluated : goal.derive_chosen-requires-clause-evaluated
 derive_chosen-requires-clause-evaluated c =

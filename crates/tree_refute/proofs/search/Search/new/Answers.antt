@@ -1,8 +1,7 @@
-use Rattle.std.proofs.Common.{◌≡◌, ◌+◌, length, ap, sym, ◌∙◌, subst, arith}
+use Rattle.std.proofs.Common.{◌≡◌, ◌+◌, length, ap, sym, ◌∙◌, subst}
 use Rattle.clause_defs.specs.Formulas.{Formula}
-use Rattle.miter_cnf.specs.Circuits.{Circuits, AreCircuits}
+use Rattle.miter_cnf.specs.Circuits.{Circuits}
 use Rattle.miter_defs.specs.Numberings.{variable_count}
-use Rattle.miter_places.specs.Places.{number_of_last}
 use Rattle.miter_places.proofs.NumberLaws.{length-Miter}
 use Rattle.tree_refute.specs.Rooms.{HasRoom}
 use Rattle.tree_refute.proofs.search.Search.new.Goals as goal

@@ -1,0 +1,7 @@
+pub mod GrowLemmas
+pub mod RowLemmas
+pub mod ClauseNumbers
+pub mod NodeLemmas
+pub mod CellLemmas
+pub mod OutputLemmas
+pub mod InputLemmas

@@ -1,0 +1,23 @@
+//! The producer: from a specification and a design to a bundle that every consumer accepts.
+//!
+//! The design is put into the order of the specification's names, mapped, placed and routed, and the
+//! miter of the specification and the placed design is refuted. Where there is no bundle, the answer says
+//! why not: a name without a partner, the first resource that is wanting, an input at which the two
+//! differ, or the spent budget with the log so far. The definitions of the answers stand in
+//! `specs/Endings`.
+#![tactic(auto)]
+
+mod aligning;
+mod budget;
+mod bundling;
+mod placing;
+mod produce_end;
+mod production;
+mod refuting;
+
+pub use budget::enough;
+pub use produce_end::ProduceEnd;
+pub use production::produce;
+
+#[cfg(test)]
+mod tests;

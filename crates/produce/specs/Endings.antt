@@ -1,5 +1,5 @@
 -- How producing a bundle ends: with a bundle that is accepted, or with a cause.
-use Rattle.std.specs.Prelude.{◌≡◌, ◌≢◌, ℕ, ◌+◌, ◌*◌, ◌<◌, ◌≤◌, List, [], length, Some, Err}
+use Rattle.std.specs.Prelude.{◌≡◌, ◌≢◌, ℕ, ◌+◌, ◌*◌, ◌<◌, ◌≤◌, List, [], length, Some, Result, Ok, Err}
 use Rattle.net_defs.specs.Networks.{Network}
 use Rattle.net_defs.specs.Evaluation.{SpecOut}
 use Rattle.net_defs.specs.Interfaces.{PlacePairs, IsPairing, Pairs, InterfaceOf}
@@ -18,6 +18,8 @@ use Rattle.log_defs.specs.Logs.{LogValue, IsLog, Words}
 use Rattle.log_defs.specs.LogTraces.{trace_of, EndsWithEmpty}
 use Rattle.tree_defs.specs.Budgets.{Enough}
 use Rattle.tree_defs.specs.Trees.{DiffersAt}
+use Rattle.tree_defs.specs.declared.tree_end.TreeEnd.{TreeEnd}
+use Rattle.tree_defs.specs.declared.tree_end.TreeEnd.TheVariants.{Empty, Differs as DiffersInSearch, Spent as SpentInSearch}
 use Rattle.place_net.specs.Placings.{Placed, FirstOver}
 use Rattle.bundle_defs.specs.Bundles.{BundleValue, bundle_bytes}
 use Rattle.verify_defs.specs.Acceptance.{AcceptsWith}
@@ -86,6 +88,12 @@ Unrefuted spec config budget (Differs x) = DiffersAt spec config x
 Unrefuted spec config budget (Spent used need log) = SpentAt spec config budget used need log
 Unrefuted spec config budget NoMemory = Unit {0}
 
+-- an end of the search as an answer
+abbrev pub answer_of : TreeEnd → LogValue → Result LogValue ProduceEnd
+answer_of (Empty index) log = Ok log
+answer_of (DiffersInSearch x) log = Err (Differs x)
+answer_of (SpentInSearch used need) log = Err (Spent used need log)
+
 -- the version of a bundle whose trace states all literals, for cells of this kind
 abbrev pub version_of : CellKind → ℕ
 version_of FourInputs = 1
@@ -99,6 +107,13 @@ bundle_of config log = bundle_bytes (record {
   config = bytes_of config.words;
   trace = trace_text (trace_of log.originals.clauses log.derived);
 })
+
+-- the placed design, and a log that refutes the miter of the specification and this
+pub record IsRefutation (spec design : Network) (g : GeometryValue) (budget : ℕ) (config : ConfigValue) (log : LogValue) : Type 0 where
+  pub net : Network
+  pub aligned : AlignedTo spec design net
+  pub placed : Placed net g config
+  pub refuted : Refuted spec config budget log
 
 -- the bytes are a bundle with the placed design, and accepted for the specification
 pub record Produced (spec design : Network) (g : GeometryValue) (bytes : List ℕ) : Type 0 where

@@ -13,11 +13,13 @@ mod bundling;
 mod placing;
 mod produce_end;
 mod production;
+mod refutation;
 mod refuting;
 
 pub use budget::enough;
 pub use produce_end::ProduceEnd;
 pub use production::produce;
+pub use refutation::{Refutation, refute};
 
 #[cfg(test)]
 mod tests;

@@ -1,13 +1,11 @@
 //! The log that refutes the miter of the specification and the placed design.
 
 ghost use Rattle.std.specs.Prelude.{◌≡◌, ◌≤◌, [], IfOk, IfErr};
-ghost use Rattle.cell_defs.specs.Cells.{CellsValue};
-ghost use Rattle.cell_defs.specs.Sources.{AreCellsOf};
 ghost use Rattle.miter_defs.specs.Equality.{FitsPads};
-ghost use Rattle.miter_defs.specs.Miters.{Miter};
-ghost use Rattle.produce.specs.Endings.{Refuted, Unrefuted};
+ghost use Rattle.produce.specs.Endings.{Refuted, Unrefuted, IsOverMiter, answer_of};
 
 use crate::produce_end::ProduceEnd;
+use clause_defs::MAX_INDEX;
 use extract::extract;
 use fabric::Config;
 use miter_cnf::miter;
@@ -25,14 +23,28 @@ pub(crate) const MAX_BUDGET: u32 = 4_194_304;
 fn open_log(alloc: Global, spec: &Net, config: &Config, budget: u32) -> Result<Log, NoMemory>
     requires fits { FitsPads spec.now config.now.geometry }
     requires budget { budget ≤ MAX_BUDGET }
-    ensures miter { IfOk result (λ log. (cells : CellsValue) → AreCellsOf config.now cells
-        → log ≡ record { originals = Miter spec.now cells; derived = []; budget = budget }) }
+    ensures over_miter { IfOk result (IsOverMiter spec.now config.now) }
+    ensures nothing { IfOk result (λ log. log.derived ≡ []) }
+    ensures budget { IfOk result (λ log. log.budget ≡ budget) }
 {
     let _geometry = config.geometry();
-    let _inputs = spec.inputs();
     let cells = extract(alloc, config)?;
     let miter = miter(alloc, spec, &cells)?;
+    if miter.len() > MAX_INDEX - budget {
+        return Err(NoMemory);
+    }
     Log::open(alloc, miter, budget)
+}
+
+/// An end of the search as an answer.
+fn answer_of(end: TreeEnd, log: Log) -> Result<Log, ProduceEnd>
+    ensures { result ≡ answer_of end log }
+{
+    match end {
+        TreeEnd::Empty { .. } => Ok(log),
+        TreeEnd::Differs { x } => Err(ProduceEnd::Differs { x }),
+        TreeEnd::Spent { used, need } => Err(ProduceEnd::Spent { used, need, log }),
+    }
 }
 
 /// The log whose last clause is the empty one, within the budget; or an input at which the two differ,
@@ -51,10 +63,9 @@ pub(crate) fn refuted_miter(
     let Ok(mut log) = open_log(alloc, spec, config, budget) else {
         return Err(ProduceEnd::NoMemory);
     };
-    match tree(alloc, spec, config, &mut log) {
-        Ok(TreeEnd::Empty { .. }) => Ok(log),
-        Ok(TreeEnd::Differs { x }) => Err(ProduceEnd::Differs { x }),
-        Ok(TreeEnd::Spent { used, need }) => Err(ProduceEnd::Spent { used, need, log }),
-        Err(_) => Err(ProduceEnd::NoMemory),
-    }
+    let Ok(end) = tree(alloc, spec, config, &mut log) else {
+        return Err(ProduceEnd::NoMemory);
+    };
+    let _used = log.used();
+    answer_of(end, log)
 }

@@ -1,28 +1,22 @@
--- How producing a bundle ends: with a bundle that is accepted, or with a cause.
+-- How producing ends: with the placed design and a log that refutes its miter, or with a cause.
 use Rattle.std.specs.Prelude.{◌≡◌, ◌≢◌, ℕ, ◌+◌, ◌*◌, ◌<◌, ◌≤◌, List, [], length, Some, Result, Ok, Err}
 use Rattle.net_defs.specs.Networks.{Network}
 use Rattle.net_defs.specs.Evaluation.{SpecOut}
 use Rattle.net_defs.specs.Interfaces.{PlacePairs, IsPairing, Pairs, InterfaceOf}
 use Rattle.net_defs.specs.Alignments.{IsAligned}
 use Rattle.fabric_defs.specs.Bits.{IsBits}
-use Rattle.fabric_defs.specs.declared.kind.CellKind.{CellKind}
-use Rattle.fabric_defs.specs.declared.kind.CellKind.TheVariants.{FourInputs, SixInputs}
 use Rattle.fabric_defs.specs.Geometries.{GeometryValue}
 use Rattle.fabric_defs.specs.Configurations.{ConfigValue}
-use Rattle.fabric_defs.specs.Spelling.{bytes_of}
 use Rattle.cell_defs.specs.Cells.{CellsValue}
 use Rattle.cell_defs.specs.Sources.{AreCellsOf}
 use Rattle.miter_defs.specs.Miters.{Miter}
-use Rattle.sat_text_defs.specs.Printed.{trace_text}
 use Rattle.log_defs.specs.Logs.{LogValue, IsLog, Words}
-use Rattle.log_defs.specs.LogTraces.{trace_of, EndsWithEmpty}
+use Rattle.log_defs.specs.LogTraces.{EndsWithEmpty}
 use Rattle.tree_defs.specs.Budgets.{Enough}
 use Rattle.tree_defs.specs.Trees.{DiffersAt}
 use Rattle.tree_defs.specs.declared.tree_end.TreeEnd.{TreeEnd}
 use Rattle.tree_defs.specs.declared.tree_end.TreeEnd.TheVariants.{Empty, Differs as DiffersInSearch, Spent as SpentInSearch}
 use Rattle.place_net.specs.Placings.{Placed, FirstOver}
-use Rattle.bundle_defs.specs.Bundles.{BundleValue, bundle_bytes}
-use Rattle.verify_defs.specs.Acceptance.{AcceptsWith}
 use Rattle.produce.specs.declared.produce_end.ProduceEnd.{ProduceEnd}
 use Rattle.produce.specs.declared.produce_end.ProduceEnd.TheVariants.{Interface, Unroutable, Differs, Spent, NoMemory}
 
@@ -94,34 +88,12 @@ answer_of (Empty index) log = Ok log
 answer_of (DiffersInSearch x) log = Err (Differs x)
 answer_of (SpentInSearch used need) log = Err (Spent used need log)
 
--- the version of a bundle whose trace states all literals, for cells of this kind
-abbrev pub version_of : CellKind → ℕ
-version_of FourInputs = 1
-version_of SixInputs = 3
-
--- the bytes of the bundle of a configuration and of the trace that a log is
-abbrev pub bundle_of : ConfigValue → LogValue → List ℕ
-bundle_of config log = bundle_bytes (record {
-  version = version_of config.geometry.kind;
-  geometry = config.geometry;
-  config = bytes_of config.words;
-  trace = trace_text (trace_of log.originals.clauses log.derived);
-})
-
 -- the placed design, and a log that refutes the miter of the specification and this
 pub record IsRefutation (spec design : Network) (g : GeometryValue) (budget : ℕ) (config : ConfigValue) (log : LogValue) : Type 0 where
   pub net : Network
   pub aligned : AlignedTo spec design net
   pub placed : Placed net g config
   pub refuted : Refuted spec config budget log
-
--- the bytes are a bundle with the placed design, and accepted for the specification
-pub record Produced (spec design : Network) (g : GeometryValue) (bytes : List ℕ) : Type 0 where
-  pub net : Network
-  pub aligned : AlignedTo spec design net
-  pub config : ConfigValue
-  pub placed : Placed net g config
-  pub accepted : AcceptsWith g spec bytes config
 
 -- The cause of each end. An interface that doesn't pair stands before a resource that is wanting, and both stand
 -- before the rest.

@@ -5,7 +5,6 @@ ghost use Rattle.miter_defs.specs.Equality.{FitsPads};
 ghost use Rattle.produce.specs.Endings.{Refuted, Unrefuted, IsOverMiter, answer_of};
 
 use crate::produce_end::ProduceEnd;
-use clause_defs::MAX_INDEX;
 use extract::extract;
 use fabric::Config;
 use miter_cnf::miter;
@@ -28,11 +27,9 @@ fn open_log(alloc: Global, spec: &Net, config: &Config, budget: u32) -> Result<L
     ensures budget { IfOk result (λ log. log.budget ≡ budget) }
 {
     let _geometry = config.geometry();
+    let _inputs = spec.inputs();
     let cells = extract(alloc, config)?;
     let miter = miter(alloc, spec, &cells)?;
-    if miter.len() > MAX_INDEX - budget {
-        return Err(NoMemory);
-    }
     Log::open(alloc, miter, budget)
 }
 

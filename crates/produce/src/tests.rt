@@ -1,4 +1,4 @@
-use crate::{ProduceEnd, enough, produce};
+use crate::{ProduceEnd, enough, refute};
 use fabric::Geometry;
 use netlist::{Net, read_specification};
 use std::alloc::Global;
@@ -13,14 +13,15 @@ fn net_of(alloc: Global, text: &[u8]) -> Result<Net, Fail> {
 }
 
 #[test]
-fn the_inverter_is_produced(rt: HostRuntime) -> Result<(), Fail> {
+fn the_inverter_is_refuted(rt: HostRuntime) -> Result<(), Fail> {
     let alloc = rt.alloc();
     let spec = net_of(alloc, INVERTER)?;
     let g = Geometry::new(1, 1, 2, 1, 1).ok_or("no fabric")?;
-    let Ok(bytes) = produce(alloc, &spec, &spec, g, 48) else {
-        return Err("no bundle".into());
+    let Ok(refutation) = refute(alloc, &spec, &spec, g, 48) else {
+        return Err("no refutation".into());
     };
-    assert!(rt; bytes.len() > 100);
+    assert!(rt; refutation.log.used() <= 48);
+    assert_eq!(rt; refutation.log.originals().len(), 26);
     Ok(())
 }
 
@@ -29,7 +30,7 @@ fn one_word_is_spent_at_once(rt: HostRuntime) -> Result<(), Fail> {
     let alloc = rt.alloc();
     let spec = net_of(alloc, INVERTER)?;
     let g = Geometry::new(1, 1, 2, 1, 1).ok_or("no fabric")?;
-    let Err(ProduceEnd::Spent { used, need, log }) = produce(alloc, &spec, &spec, g, 1) else {
+    let Err(ProduceEnd::Spent { used, need, log }) = refute(alloc, &spec, &spec, g, 1) else {
         return Err("not spent".into());
     };
     assert_eq!(rt; used, 0);
@@ -44,7 +45,7 @@ fn a_buffer_is_no_inverter(rt: HostRuntime) -> Result<(), Fail> {
     let spec = net_of(alloc, INVERTER)?;
     let design = net_of(alloc, BUFFER)?;
     let g = Geometry::new(1, 1, 2, 1, 1).ok_or("no fabric")?;
-    let Err(ProduceEnd::Differs { x }) = produce(alloc, &spec, &design, g, 48) else {
+    let Err(ProduceEnd::Differs { x }) = refute(alloc, &spec, &design, g, 48) else {
         return Err("no difference".into());
     };
     assert_eq!(rt; x.len(), 1);

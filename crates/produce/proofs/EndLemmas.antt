@@ -1,13 +1,12 @@
 -- What the ends of the search mean for the producer.
-use Rattle.std.proofs.Common.{◌≡◌, ◌≢◌, ℕ, zero, suc, ◌+◌, ◌*◌, ◌<◌, ◌≤◌, List, [], ◌∷◌, ◌++◌, length, map, take, get_or, sum_by, inl, Result, Ok, Err, IfOk, IfErr, refl, ap, subst, sym, ◌∙◌, arith}
+use Rattle.std.proofs.Common.{◌≡◌, ℕ, List, [], ◌∷◌, length, take, inl, Result, Ok, Err, IfOk, IfErr, refl, ap, subst, sym, ◌∙◌, arith}
 use Rattle.std.proofs.lemmas.List.{length-map}
-use Rattle.clause_defs.specs.Literals.{Literal}
-use Rattle.clause_defs.specs.Clauses.{Lits, Has, SameSet}
+use Rattle.clause_defs.specs.Clauses.{Lits, SameSet}
 use Rattle.clause_defs.specs.Formulas.{Formula}
 use Rattle.net_defs.specs.Networks.{Network, Output}
-use Rattle.net_defs.specs.Nets.{IsNet, output_names}
+use Rattle.net_defs.specs.Nets.{IsNet}
 use Rattle.net_defs.proofs.AssignmentLemmas.{assignment_exists}
-use Rattle.net_defs.specs.Evaluation.{Settles, SpecOut, bits_at, output_signals}
+use Rattle.net_defs.specs.Evaluation.{SpecOut, bits_at, output_signals}
 use Rattle.net_laws.proofs.AlignLemmas.{inputs-aligned, output_names-aligned}
 use Rattle.fabric_defs.specs.Bits.{IsBits}
 use Rattle.fabric_defs.specs.Geometries.{GeometryValue}
@@ -17,15 +16,14 @@ use Rattle.cell_defs.specs.Sources.{AreCellsOf}
 use Rattle.cell_laws.proofs.CellsUniqueness.{cells-unique}
 use Rattle.miter_defs.specs.Equality.{FitsPads, Equal}
 use Rattle.miter_defs.specs.Miters.{Miter}
-use Rattle.log_defs.specs.Logs.{LogValue, Derived, IsLog, Words, HasDerived, Extends, clause_of_log}
-use Rattle.log_defs.specs.LogTraces.{EndsWithEmpty}
+use Rattle.log_defs.specs.Logs.{LogValue, Derived, IsLog, Words, Extends, clause_of_log}
 use Rattle.tree_defs.specs.Trees.{DiffersAt, HasNoEmpty, IsRefuted, IsSpentAt, TreeEnds}
 use Rattle.tree_defs.specs.declared.tree_end.TreeEnd.{TreeEnd}
 use Rattle.tree_defs.specs.declared.tree_end.TreeEnd.TheVariants.{Empty, Differs as DiffersInSearch, Spent as SpentInSearch}
-use Rattle.place_net.specs.Placings.{Placed, FirstOver}
+use Rattle.place_net.specs.Placings.{Placed}
 use Rattle.produce.specs.declared.produce_end.ProduceEnd.{ProduceEnd}
 use Rattle.produce.specs.declared.produce_end.ProduceEnd.TheVariants.{Interface, Unroutable, Differs, Spent, NoMemory}
-use Rattle.produce.specs.Endings.{AlignedTo, HaveOtherOutputs, IsOverMiter, Refuted, SpentAt, Unaligned, Unplaced, Unrefuted, EndsBy, answer_of}
+use Rattle.produce.specs.Endings.{AlignedTo, HaveOtherOutputs, IsOverMiter, Refuted, SpentAt, Unrefuted, EndsBy, answer_of}
 
 -- a clause with the literals of none has none
 no_literals : (c : Lits) → SameSet c [] → c ≡ []

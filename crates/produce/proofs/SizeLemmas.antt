@@ -1,21 +1,21 @@
 -- A miter has few clauses.
-use Rattle.std.proofs.Common.{◌≡◌, ℕ, zero, suc, ◌+◌, ◌*◌, ◌^◌, ◌<◌, ◌≤◌, Bool, List, [], ◌∷◌, length, map, take, get_or, sum_by, refl, sym, ◌∙◌, ap, subst, arith, length-append}
+use Rattle.std.proofs.Common.{◌≡◌, ℕ, zero, suc, ◌+◌, ◌*◌, ◌^◌, ◌<◌, ◌≤◌, Bool, List, [], length, take, sum_by, ap, arith, length-append}
 use Rattle.std.specs.List.{count_by}
 use Rattle.std.proofs.Math.Nat.{mul-le-mul}
 use Rattle.std.proofs.lemmas.List.{take_all, length-take-le}
 use Rattle.std.proofs.lemmas.List.Sums.{sum_by_more, get_or-le-sum_by, count_by-le-length}
 use Rattle.blif_defs.specs.declared.mark.Mark.{Mark}
-use Rattle.net_defs.specs.Networks.{Node, Network, no_node, node_at, signals}
+use Rattle.net_defs.specs.Networks.{Node, Network, no_node, node_at}
 use Rattle.net_defs.specs.Nets.{IsNet, rows_size}
 use Rattle.fabric_defs.specs.Numbered.{joined}
 use Rattle.fabric_defs.specs.declared.kind.CellKind.{CellKind}
 use Rattle.fabric_defs.specs.declared.kind.CellKind.TheVariants.{FourInputs, SixInputs}
 use Rattle.fabric_defs.specs.Kinds.{pins_of}
-use Rattle.fabric_defs.specs.Geometries.{GeometryValue, IsGeometry, table_bits, cell_count}
+use Rattle.fabric_defs.specs.Geometries.{IsGeometry, table_bits, cell_count}
 use Rattle.fabric_defs.specs.Configurations.{ConfigValue}
 use Rattle.cell_defs.specs.Cells.{CellsValue}
 use Rattle.cell_defs.specs.Sources.{AreCellsOf}
-use Rattle.miter_defs.specs.Miters.{Miter, row_at, node_clauses, cell_clauses, output_clauses}
+use Rattle.miter_defs.specs.Miters.{Miter, row_at, node_clauses}
 use Rattle.miter_places.specs.Places.{is_asked, row_clauses}
 use Rattle.miter_places.proofs.NumberLaws.{length-Miter}
 use Rattle.miter_places.proofs.SizeLemmas.{row_counted, node_size, outputs_size, cells_size}

@@ -1,5 +1,5 @@
 -- How producing ends: with the placed design and a log that refutes its miter, or with a cause.
-use Rattle.std.specs.Prelude.{◌≡◌, ◌≢◌, ℕ, ◌+◌, ◌*◌, ◌<◌, ◌≤◌, List, [], length, Some, Result, Ok, Err}
+use Rattle.std.specs.Prelude.{◌≡◌, ◌≢◌, ℕ, ◌+◌, ◌*◌, ◌<◌, ◌≤◌, List, length, Some, Result, Ok, Err}
 use Rattle.net_defs.specs.Networks.{Network}
 use Rattle.net_defs.specs.Evaluation.{SpecOut}
 use Rattle.net_defs.specs.Interfaces.{PlacePairs, IsPairing, Pairs, InterfaceOf}

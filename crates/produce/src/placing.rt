@@ -20,12 +20,14 @@ pub(crate) fn placed_design(alloc: Global, net: &Net, g: Geometry) -> Result<Con
 {
     match place(alloc, net, g) {
         Ok(config) => Ok(config),
-        Err(RouteError::Unroutable {
-            resource,
-            place,
-            need,
-            have,
-        }) => Err(ProduceEnd::Unroutable {
+        Err(
+            RouteError::Unroutable {
+                resource,
+                place,
+                need,
+                have,
+            },
+        ) => Err(ProduceEnd::Unroutable {
             resource,
             place,
             need,

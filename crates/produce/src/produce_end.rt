@@ -16,9 +16,15 @@ pub enum ProduceEnd {
         have: u32,
     },
     /// Where the inputs of the specification have the bits `x`, the design has other outputs.
-    Differs { x: Bits },
+    Differs {
+        x: Bits,
+    },
     /// The next clause is over the budget: `used` words are the log's, and `need` are the clause's.
-    Spent { used: u32, need: u32, log: Log },
+    Spent {
+        used: u32,
+        need: u32,
+        log: Log,
+    },
     /// Memory was wanting.
     NoMemory,
 }

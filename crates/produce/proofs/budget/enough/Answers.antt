@@ -1,4 +1,4 @@
-use Rattle.std.proofs.Common.{ℕ, ◌<◌, arith}
+use Rattle.std.proofs.Common.{◌<◌, arith}
 use Rattle.produce.proofs.BudgetLemmas.{enough_fits}
 use Rattle.produce.proofs.budget.enough.Goals as goal
 

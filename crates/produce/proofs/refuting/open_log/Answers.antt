@@ -1,4 +1,4 @@
-use Rattle.std.proofs.Common.{◌≡◌, length, ap, arith}
+use Rattle.std.proofs.Common.{length, ap, arith}
 use Rattle.clause_defs.specs.Formulas.{Formula}
 use Rattle.produce.proofs.SizeLemmas.{few_clauses}
 use Rattle.produce.proofs.EndLemmas.{opened_over}

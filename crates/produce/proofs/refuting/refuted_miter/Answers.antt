@@ -1,5 +1,5 @@
-use Rattle.std.proofs.Common.{◌≡◌, Ok, IfOk, subst, sym}
-use Rattle.produce.specs.Endings.{Refuted, answer_of}
+use Rattle.std.proofs.Common.{IfOk, subst, sym}
+use Rattle.produce.specs.Endings.{Refuted}
 use Rattle.produce.proofs.EndLemmas.{answered_ok}
 use Rattle.produce.proofs.refuting.refuted_miter.Goals as goal
 

@@ -1,0 +1,3 @@
+pub mod EndLemmas
+pub mod BudgetLemmas
+pub mod SizeLemmas

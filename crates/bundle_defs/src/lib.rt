@@ -5,5 +5,7 @@
 #![tactic(auto)]
 
 mod faults;
+mod limits;
 
 pub use faults::BundleError;
+pub use limits::MAX_BUNDLE_BYTES;

@@ -1,6 +1,6 @@
 -- What contracts see of a command.
 use Rattle.std.specs.Prelude.{◌≤◌}
-use Rattle.pch_lines.specs.declared.limits.TheConstants.{MAX_WORKERS}
+use Rattle.script_defs.specs.declared.limits.TheConstants.{MAX_WORKERS}
 use Rattle.pch_lines.specs.declared.command.Command.{Command}
 use Rattle.pch_lines.specs.declared.command.Command.TheVariants.{Check, Verify, Cnf, Compact, Place}
 use Rattle.pch_lines.specs.declared.command.NamedFile.{NamedFile}

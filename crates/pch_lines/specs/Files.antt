@@ -2,7 +2,7 @@
 use Rattle.std.specs.Prelude.{ℕ, List, [], ◌∷◌, Option, Some, None}
 use Rattle.sat_text_defs.specs.declared.limits.TheConstants.{MAX_CNF_BYTES, MAX_TRACE_BYTES}
 use Rattle.blif_defs.specs.declared.mark.TheConstants.{MAX_BYTES}
-use Rattle.pch_lines.specs.declared.limits.TheConstants.{MAX_BUNDLE_BYTES}
+use Rattle.bundle_defs.specs.declared.limits.TheConstants.{MAX_BUNDLE_BYTES}
 use Rattle.pch_lines.specs.Words.{Form, check, verify, cnf, compact, place}
 
 -- a file that is to be loaded: its name, and the most bytes that it may have

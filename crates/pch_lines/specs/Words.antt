@@ -7,7 +7,7 @@ use Rattle.fabric_defs.specs.declared.kind.CellKind.{CellKind}
 use Rattle.fabric_defs.specs.declared.kind.CellKind.TheVariants.{FourInputs, SixInputs}
 use Rattle.fabric_defs.specs.Geometries.{GeometryValue}
 use Rattle.fabric_defs.specs.declared.limits.TheConstants.{MAX_SIDE, MAX_TRACKS}
-use Rattle.pch_lines.specs.declared.limits.TheConstants.{MAX_WORKERS}
+use Rattle.script_defs.specs.declared.limits.TheConstants.{MAX_WORKERS}
 
 -- the words of a command line, without the program's own name
 abbrev pub words_in : List (String Global) → List (List ℕ)

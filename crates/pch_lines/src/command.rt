@@ -3,8 +3,8 @@ ghost use Rattle.std.specs.Option.{option_map};
 ghost use Rattle.pch_lines.specs.Files.{files_of, out_of};
 ghost use Rattle.pch_lines.specs.Commands.{form_seen, file_seen};
 
-use crate::limits::MAX_BUNDLE_BYTES;
 use blif_defs::MAX_BYTES;
+use bundle_defs::MAX_BUNDLE_BYTES;
 use fabric::Geometry;
 use pch_base::NoMemory;
 use sat_text_defs::{MAX_CNF_BYTES, MAX_TRACE_BYTES};

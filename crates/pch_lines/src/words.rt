@@ -5,10 +5,10 @@ ghost use Rattle.pch_lines.specs.Words.{words_in, form_of, plain_form, file_form
 ghost use Rattle.pch_lines.specs.Commands.{form_seen, HasWorkers};
 
 use crate::command::Command;
-use crate::limits::MAX_WORKERS;
 use fabric::Geometry;
 use fabric_defs::{CellKind, MAX_SIDE, MAX_TRACKS};
 use pch_base::read_number;
+use script_defs::MAX_WORKERS;
 
 /// The command of these words, if they have one of the forms. Behind the word `six` stands a command
 /// that names a fabric, whose cells have six inputs then.

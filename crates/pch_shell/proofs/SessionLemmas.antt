@@ -30,7 +30,7 @@ use Rattle.session_load.specs.declared.fault.NoScript.{NoScript}
 use Rattle.session_load.specs.declared.fault.NoScript.TheVariants as no_script
 use Rattle.session_load.specs.declared.fault.FileFault.{FileFault}
 use Rattle.session_load.specs.declared.fault.FileFault.TheVariants.{Load, Specification}
-use Rattle.session_load.specs.Usable.{Holds, limit_behind, IsUsable, AreUsable, FileCause, StopsAt, ScriptCause}
+use Rattle.session_load.specs.Usable.{IsContentOf, limit_behind, IsUsable, AreUsable, FileCause, StopsAt, ScriptCause}
 use Rattle.pch_lines.specs.Sessions.{SessionForm}
 use Rattle.pch_shell.specs.Outcomes.{Outcome, done}
 use Rattle.pch_shell.specs.Runs.{StoreState, SinkState, Put}
@@ -180,7 +180,7 @@ not_faulty form t s error h k =
     cc
 
 -- what specifies a network has no fault
-specifies : (bytes : List ℕ) (c : Contents) (error : SpecError) → Holds kinds.Spec bytes c → IsSpecFault bytes error → ⊥
+specifies : (bytes : List ℕ) (c : Contents) (error : SpecError) → IsContentOf kinds.Spec bytes c → IsSpecFault bytes error → ⊥
 specifies bytes (specification net) error h k =
     let both : Ok net ≡ Err error = specification_is_unique bytes (Ok net) (Err error) h k in cc
 specifies bytes (delivery delivered) error h k = absurd h
@@ -191,7 +191,7 @@ usable_one : (t : Files) (b n used : ℕ) (u : FileUse) (c : Contents) (bytes : 
 usable_one t b n used u c bytes error h (is, text, loads, inl none) real = real none
 usable_one t b n used u c bytes error h (is, text, loads, inr faulty) real =
     let same : text ≡ bytes = loads_one t u.name (limit_behind u.kind used) (limit_behind u.kind used) text bytes loads h.loads in
-    specifies bytes c error (subst (λ k. Holds k bytes c) is h.holds) (subst (λ (x : List ℕ). IsSpecFault x error) same faulty)
+    specifies bytes c error (subst (λ k. IsContentOf k bytes c) is h.holds) (subst (λ (x : List ℕ). IsSpecFault x error) same faulty)
 
 -- where all files can be used, none is a faulty specification
 usable_all : (t : Files) (b n used : ℕ) (us : List FileUse) (cs : List Contents) (file : ℕ) (error : SpecError)

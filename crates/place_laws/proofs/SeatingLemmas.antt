@@ -15,7 +15,7 @@ use Rattle.route_defs.specs.declared.span.Span.{Span}
 use Rattle.route_defs.specs.Spans.{span_at, need}
 use Rattle.route_defs.specs.Signals.{IsSignal, signal_number, first_channel, span_of, AreSpans}
 use Rattle.route_defs.specs.Demands.{cells_in}
-use Rattle.route_defs.specs.Tracks.{IsOrdered}
+use Rattle.route_defs.specs.Tracks.{BeginInOrder}
 use Rattle.route_defs.specs.Placed.{row_of, HaveRoom}
 use Rattle.route_laws.specs.Words.{entry_word}
 use Rattle.route_laws.specs.Seats.{AreRows, seat_of, seat_count, seats_until, first_of, entry_of, HaveSeats}
@@ -237,7 +237,7 @@ first_of-seat l g columns rows seats spans seated signals seat (Some n) h are ha
 -- so the seats stand in the order of first channels
 pub seats-ordered : (l : MappedValue) (g : GeometryValue) (columns rows seats : List ℕ) (spans seated : List Span) (signals : List (Option ℕ))
     → AreSeats l g columns rows seats → AreSpans l columns g.columns spans → HaveSeats l.inputs g spans seats (length spans) seated signals
-    → IsOrdered seated
+    → BeginInOrder seated
 seats-ordered l g columns rows seats spans seated signals h are have = λ i j le lt.
     let first = λ (seat : ℕ) (less : seat < seat_count l.inputs g).
     first_of-seat l g columns rows seats spans seated signals seat (get_or signals seat None) h are have less refl in

@@ -10,7 +10,7 @@ use Rattle.route_defs.specs.declared.span.Span.{Span}
 use Rattle.route_defs.specs.Spans.{need}
 use Rattle.route_defs.specs.Signals.{AreSpans}
 use Rattle.route_defs.specs.Demands.{demands, first_over}
-use Rattle.route_defs.specs.Tracks.{AreTracks, IsOrdered}
+use Rattle.route_defs.specs.Tracks.{AreTracks, BeginInOrder}
 use Rattle.route_laws.specs.Seats.{AreRows, seat_of, seat_count, HaveSeats}
 use Rattle.route_laws.specs.Listing.{listed_words}
 use Rattle.place_laws.specs.Routings.{AreSeats, HaveTracks}
@@ -89,7 +89,7 @@ have_seats l g spans seats inputs seated signals e h =
 
 pub seated-ordered : (l : MappedValue) (g : GeometryValue) (columns rows seats : List ℕ) (spans : List Span) (inputs : ℕ) (seated : List Span) (signals : List (Option ℕ))
     → CanBePlaced l g columns rows spans → AreSeats l g columns rows seats → inputs ≡ l.inputs
-    → HaveSeats inputs g spans seats (length spans) seated signals → IsOrdered seated
+    → HaveSeats inputs g spans seats (length spans) seated signals → BeginInOrder seated
 seated-ordered l g columns rows seats spans inputs seated signals h are e have =
     seats-ordered l g columns rows seats spans seated signals are h.are (have_seats l g spans seats inputs seated signals e have)
 

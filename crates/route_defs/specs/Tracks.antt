@@ -12,5 +12,5 @@ pub record AreTracks (spans : List Span) (have : ℕ) (tracks : List ℕ) : Type
       → IsLive (span_at spans j) c → slice_index tracks i ≡ slice_index tracks j → i ≡ j
 
 -- the signals stand in the order of their first channels
-abbrev pub IsOrdered : List Span → Type 0
-IsOrdered spans = (i j : ℕ) → i ≤ j → j < length spans → (span_at spans i).first ≤ (span_at spans j).first
+abbrev pub BeginInOrder : List Span → Type 0
+BeginInOrder spans = (i j : ℕ) → i ≤ j → j < length spans → (span_at spans i).first ≤ (span_at spans j).first

@@ -15,7 +15,7 @@ use Rattle.script_defs.specs.declared.command.Command.TheVariants.{Agree, Delive
 use Rattle.script_defs.specs.Scripts.{IsFileOf, IsCommand}
 use Rattle.session_defs.specs.Files.{Contents, specification, delivery}
 use Rattle.run_actors.specs.declared.loaded.Loaded.{Loaded}
-use Rattle.run_actors.specs.Loading.{contents_of, IsOfKind, AreLoaded, IsSpec, IsBundle, CanRun}
+use Rattle.run_actors.specs.Loading.{contents_of, IsOfKind, AreOfKinds, IsSpec, IsBundle, CanRun}
 use Rattle.run_actors.proofs.Turns.{take-next}
 
 -- the file of a use is loaded as what it is used as
@@ -40,7 +40,7 @@ is_bundle files file (Some (specification net)) is found = absurd found
 is_bundle files file (Some (delivery bytes)) is found = (bytes, is)
 
 -- a file that is used as a kind is loaded as that kind
-of-kind : (uses : List FileUse) (files : List Contents) (kind : Kind) (file : ℕ) → AreLoaded uses files
+of-kind : (uses : List FileUse) (files : List Contents) (kind : Kind) (file : ℕ) → AreOfKinds uses files
     → IsFileOf uses kind file → IsSomeAnd (slice_get files file) (IsOfKind kind)
 of-kind uses files kind file loaded used =
     subst (λ k. IsSomeAnd (slice_get files file) (IsOfKind k)) used.2
@@ -48,7 +48,7 @@ of-kind uses files kind file loaded used =
     (AllZip-left (λ (u : FileUse) c. IsOfKind u.kind c) uses files loaded file))
 
 -- so each command of a script can run
-pub can-run : (g : GeometryValue) (slots : ℕ) (uses : List FileUse) (files : List Contents) → AreLoaded uses files
+pub can-run : (g : GeometryValue) (slots : ℕ) (uses : List FileUse) (files : List Contents) → AreOfKinds uses files
     → (c : Command) → IsCommand g slots uses c → CanRun g slots files c
 can-run g slots uses files loaded (Agree slot file) is =
     (is.0, is_spec files file (slice_get files file) refl (of-kind uses files SpecFile file loaded is.1))
@@ -59,7 +59,7 @@ can-run g slots uses files loaded (Cycle slot bits probe) is = (is.0, is.3)
 can-run g slots uses files loaded (Sweep slot first count) is = is.0
 
 -- and all commands of a lane
-pub all-can_run : (g : GeometryValue) (slots : ℕ) (uses : List FileUse) (files : List Contents) → AreLoaded uses files
+pub all-can_run : (g : GeometryValue) (slots : ℕ) (uses : List FileUse) (files : List Contents) → AreOfKinds uses files
     → (cs : List Command) → All (IsCommand g slots uses) cs → All (CanRun g slots files) cs
 all-can_run g slots uses files loaded cs all =
     All-weaker (IsCommand g slots uses) (CanRun g slots files) (can-run g slots uses files loaded) cs all
@@ -68,7 +68,7 @@ all-can_run g slots uses files loaded cs all =
 
 -- each file is of the kind that it is used as
 pub kind-at : (uses : List FileUse) (files : List Loaded) (i : ℕ) (u : FileUse) (f : Loaded)
-    → AreLoaded uses (map contents_of files) → slice_get uses i ≡ Some u → slice_get files i ≡ Some f
+    → AreOfKinds uses (map contents_of files) → slice_get uses i ≡ Some u → slice_get files i ≡ Some f
     → IsOfKind u.kind (contents_of f)
 kind-at uses files i u f loaded is_use is_file =
     subst (λ o. IsSomeAnd o (IsOfKind u.kind)) (slice_get-map contents_of files i ∙ ap (option_map contents_of) is_file)
@@ -78,8 +78,8 @@ kind-at uses files i u f loaded is_use is_file =
 -- one file more
 pub loaded-more : (uses : List FileUse) (files : List Loaded) (i : ℕ) (u : FileUse) (f : Loaded)
     → slice_get uses i ≡ Some u → slice_get files i ≡ Some f
-    → AreLoaded (take i uses) (map contents_of (take i files)) → IsOfKind u.kind (contents_of f)
-    → AreLoaded (take (i + 1) uses) (map contents_of (take (i + 1) files))
+    → AreOfKinds (take i uses) (map contents_of (take i files)) → IsOfKind u.kind (contents_of f)
+    → AreOfKinds (take (i + 1) uses) (map contents_of (take (i + 1) files))
 loaded-more uses files i u f is_use is_file loaded kind =
     let R : FileUse → Contents → Type 0 = λ u c. IsOfKind u.kind c in
     subst (λ us. AllZip R us (map contents_of (take (i + 1) files))) (sym (take-next uses i u is_use))
@@ -89,7 +89,7 @@ loaded-more uses files i u f is_use is_file loaded kind =
 
 -- all of them
 pub loaded-whole : (uses : List FileUse) (files : List Loaded) (n : ℕ) → length uses ≤ n → length files ≤ n
-    → AreLoaded (take n uses) (map contents_of (take n files)) → AreLoaded uses (map contents_of files)
+    → AreOfKinds (take n uses) (map contents_of (take n files)) → AreOfKinds uses (map contents_of files)
 loaded-whole uses files n all_uses all_files loaded =
-    subst (λ us. AreLoaded us (map contents_of files)) (take_all n uses all_uses)
-    (subst (λ fs. AreLoaded (take n uses) (map contents_of fs)) (take_all n files all_files) loaded)
+    subst (λ us. AreOfKinds us (map contents_of files)) (take_all n uses all_uses)
+    (subst (λ fs. AreOfKinds (take n uses) (map contents_of fs)) (take_all n files all_files) loaded)

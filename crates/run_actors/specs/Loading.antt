@@ -26,8 +26,8 @@ IsOfKind BundleFile (specification net) = ⊥
 IsOfKind BundleFile (delivery bytes) = Unit {0}
 
 -- there is one loaded file for each that a script uses, and each is of the kind that it is used as
-abbrev pub AreLoaded : List FileUse → List Contents → Type 0
-AreLoaded uses files = AllZip (λ (u : FileUse) c. IsOfKind u.kind c) uses files
+abbrev pub AreOfKinds : List FileUse → List Contents → Type 0
+AreOfKinds uses files = AllZip (λ (u : FileUse) c. IsOfKind u.kind c) uses files
 
 -- the file with this number describes some network
 abbrev pub IsSpec : List Contents → ℕ → Type 0

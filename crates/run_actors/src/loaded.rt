@@ -3,7 +3,7 @@
 ghost use Rattle.std.specs.Prelude.{◌≡◌, map, Decides};
 ghost use Rattle.std.specs.Arc.{arc_value};
 ghost use Rattle.session_defs.specs.Files.{DescribesNet, IsDelivery};
-ghost use Rattle.run_actors.specs.Loading.{contents_of, IsOfKind, AreLoaded, IsSpec, IsBundle};
+ghost use Rattle.run_actors.specs.Loading.{contents_of, IsOfKind, AreOfKinds, IsSpec, IsBundle};
 
 use netlist::Net;
 use run_script::{FileUse, Kind};
@@ -32,7 +32,7 @@ fn is_of_kind(kind: Kind, file: &Loaded) -> bool
 
 /// Whether there is one loaded file for each use of one, and each is loaded as what it is used as.
 pub fn are_loaded(uses: &[FileUse], files: &[Loaded]) -> bool
-    ensures { Decides result (AreLoaded uses.now (map contents_of files.now)) }
+    ensures { Decides result (AreOfKinds uses.now (map contents_of files.now)) }
 {
     if uses.len() != files.len() {
         return false;

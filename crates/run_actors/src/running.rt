@@ -6,7 +6,7 @@ ghost use Rattle.script_defs.specs.Transcripts.{ArePrintable};
 ghost use Rattle.session_defs.specs.Transcripts.{TranscriptOf};
 ghost use Rattle.run_script.specs.Views.{script_of};
 ghost use Rattle.run_script.specs.Replies.{transcript_of};
-ghost use Rattle.run_actors.specs.Loading.{contents_of, AreLoaded};
+ghost use Rattle.run_actors.specs.Loading.{contents_of, AreOfKinds};
 
 use crate::device::Device;
 use crate::lanes::run_lane;
@@ -35,7 +35,7 @@ pub fn run_in_order<R: Threads + Wait + Sync, G: Gate>(
     gate: &G,
 ) -> Result<Transcript, NoMemory>
     requires script { IsScript (script_of s.now) }
-    requires files { AreLoaded s.now.files (map contents_of files.now) }
+    requires files { AreOfKinds s.now.files (map contents_of files.now) }
     ensures printable { IfOk result (λ t. ArePrintable (transcript_of t).lanes) }
     ensures transcript { IfOk result (λ t. TranscriptOf (script_of s.now)
         (map contents_of files.now) (transcript_of t)) }

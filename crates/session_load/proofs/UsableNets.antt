@@ -11,7 +11,7 @@ use Rattle.script_defs.specs.declared.command.FileUse.{FileUse}
 use Rattle.script_defs.specs.declared.command.Kind.{Kind}
 use Rattle.script_defs.specs.declared.command.Kind.TheVariants.{Spec, Bundle}
 use Rattle.session_defs.specs.Files.{Contents, specification, DescribesNet}
-use Rattle.session_load.specs.Usable.{Holds, AreUsable}
+use Rattle.session_load.specs.Usable.{IsContentOf, AreUsable}
 
 -- the network that a text specifies is a net, because the text's design is within the limits
 specified-net : (text : List ℕ) (net : Network) → HasNetwork text net → IsNet net
@@ -19,10 +19,10 @@ specified-net text net has =
     IsNet-built has.design net has.builds.0 (design_of_text text has.design has.reads) has.builds.1
 
 -- a file that describes a network was read as a specification, so the network is the one that its text specifies
-held-net : (kind : Kind) (bytes : List ℕ) (c : Contents) (net : Network) → c ≡ specification net → Holds kind bytes c
+held-net : (kind : Kind) (bytes : List ℕ) (c : Contents) (net : Network) → c ≡ specification net → IsContentOf kind bytes c
     → IsNet net
-held-net Spec bytes c net is held = specified-net bytes net (subst (Holds Spec bytes) is held)
-held-net Bundle bytes c net is held = absurd (subst (Holds Bundle bytes) is held)
+held-net Spec bytes c net is held = specified-net bytes net (subst (IsContentOf Spec bytes) is held)
+held-net Bundle bytes c net is held = absurd (subst (IsContentOf Bundle bytes) is held)
 
 -- a file that can be used holds what its bytes say for its kind, so each network among such files is a net
 pub usable-nets : (told : Option Files) (used : ℕ) (uses : List FileUse) (contents : List Contents)

@@ -10,9 +10,9 @@ use Rattle.script_defs.specs.declared.command.Kind.{Kind}
 use Rattle.script_defs.specs.declared.command.Kind.TheVariants.{Spec, Bundle}
 use Rattle.session_defs.specs.Files.{Contents, specification, delivery}
 use Rattle.run_actors.specs.declared.loaded.Loaded.{Loaded}
-use Rattle.run_actors.specs.Loading.{contents_of, IsOfKind, AreLoaded}
+use Rattle.run_actors.specs.Loading.{contents_of, IsOfKind, AreOfKinds}
 use Rattle.session_load.specs.declared.fault.FileFault.{FileFault}
-use Rattle.session_load.specs.Usable.{Holds, IsOfSize, AreUsable, FileCause, StopsAt}
+use Rattle.session_load.specs.Usable.{IsContentOf, IsOfSize, AreUsable, FileCause, StopsAt}
 
 -- the elements that are left
 drop-next : {X : Type 0} (xs : List X) (i : ℕ) (x : X) → slice_get xs i ≡ Some x → drop i xs ≡ x ∷ drop (i + 1) xs
@@ -81,7 +81,7 @@ completes-all told used i uses files past so_far =
 -- ---- kinds
 
 -- what is used as a kind is of that kind
-held-kind : (kind : Kind) (bytes : List ℕ) (c : Contents) → Holds kind bytes c → IsOfKind kind c
+held-kind : (kind : Kind) (bytes : List ℕ) (c : Contents) → IsContentOf kind bytes c → IsOfKind kind c
 held-kind Spec bytes (specification net) held = tt
 held-kind Spec bytes (delivery delivered) held = held
 held-kind Bundle bytes (specification net) held = held
@@ -89,7 +89,7 @@ held-kind Bundle bytes (delivery delivered) held = tt
 
 -- so all files are loaded as what they are used as
 pub usable-loaded : (told : Option Files) (used : ℕ) (uses : List FileUse) (files : List Contents)
-    → AreUsable told used uses files → AreLoaded uses files
+    → AreUsable told used uses files → AreOfKinds uses files
 usable-loaded told used [] [] usable = tt
 usable-loaded told used [] (c ∷ files) usable = usable
 usable-loaded told used (u ∷ uses) [] usable = usable

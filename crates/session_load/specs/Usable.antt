@@ -8,7 +8,8 @@ use Rattle.script_defs.specs.declared.command.Kind.{Kind}
 use Rattle.script_defs.specs.declared.command.Kind.TheVariants.{Spec, Bundle}
 use Rattle.script_defs.specs.declared.command.FileUse.{FileUse}
 use Rattle.session_defs.specs.Files.{Contents, specification, delivery}
-use Rattle.session_load.specs.declared.limits.TheConstants.{MAX_DELIVERY_BYTES, MAX_SESSION_BYTES}
+use Rattle.bundle_defs.specs.declared.limits.TheConstants.{MAX_BUNDLE_BYTES}
+use Rattle.session_load.specs.declared.limits.TheConstants.{MAX_SESSION_BYTES}
 use Rattle.script_defs.specs.declared.error.ScriptError.TheVariants as script_errors
 use Rattle.script_defs.specs.declared.limits.TheConstants.{MAX_SCRIPT_BYTES}
 use Rattle.script_defs.specs.Texts.{ScriptFault}
@@ -28,23 +29,23 @@ ScriptCause told before now name (NoRead error) =
 -- the most bytes that a file may have that is read as this kind
 abbrev pub kind_limit : Kind → ℕ
 kind_limit Spec = MAX_BYTES
-kind_limit Bundle = MAX_DELIVERY_BYTES
+kind_limit Bundle = MAX_BUNDLE_BYTES
 
 -- the same, or what is left of the limit of all files where those before have so many bytes
 abbrev pub limit_behind : Kind → ℕ → ℕ
 limit_behind kind used = min (kind_limit kind) (MAX_SESSION_BYTES - used)
 
 -- bytes that are read as this kind hold this
-abbrev pub Holds : Kind → List ℕ → Contents → Type 0
-Holds Spec bytes (specification net) = SpecificationOf bytes (Ok net)
-Holds Spec bytes (delivery delivered) = ⊥
-Holds Bundle bytes (specification net) = ⊥
-Holds Bundle bytes (delivery delivered) = delivered ≡ bytes
+abbrev pub IsContentOf : Kind → List ℕ → Contents → Type 0
+IsContentOf Spec bytes (specification net) = SpecificationOf bytes (Ok net)
+IsContentOf Spec bytes (delivery delivered) = ⊥
+IsContentOf Bundle bytes (specification net) = ⊥
+IsContentOf Bundle bytes (delivery delivered) = delivered ≡ bytes
 
 -- the file has these bytes, which hold this; the files before it have so many bytes
 pub record IsUsable (told : Option Files) (used : ℕ) (u : FileUse) (c : Contents) (bytes : List ℕ) : Type 0 where
   pub loads : Loads told u.name (limit_behind u.kind used) bytes
-  pub holds : Holds u.kind bytes c
+  pub holds : IsContentOf u.kind bytes c
 
 -- the file can be used and has so many bytes
 abbrev pub IsOfSize : Option Files → ℕ → FileUse → Contents → ℕ → Type 0

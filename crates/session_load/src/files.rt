@@ -2,18 +2,19 @@ ghost use Rattle.std.specs.Prelude.{◌≡◌, ◌<◌, ◌≤◌, ◌+◌, ◌�
 ghost use Rattle.std.specs.Str.{IsUtf8};
 ghost use Rattle.script_defs.specs.declared.command.FileUse.{FileUse as Use};
 ghost use Rattle.script_defs.specs.declared.command.Kind.TheVariants as kinds;
-ghost use Rattle.run_actors.specs.Loading.{contents_of, AreLoaded};
+ghost use Rattle.run_actors.specs.Loading.{contents_of, AreOfKinds};
 ghost use Rattle.run_actors.specs.declared.loaded.Loaded.{Loaded as LoadedFile};
 ghost use Rattle.pch_io.specs.declared.store.LoadFail.TheVariants.{NoMemory as NoMemoryToLoad};
 ghost use Rattle.session_load.specs.declared.fault.FileFault.TheVariants.{Load};
 ghost use Rattle.session_load.specs.declared.limits.TheConstants.{MAX_SESSION_BYTES};
-ghost use Rattle.session_load.specs.Usable.{kind_limit, Holds, IsOfSize, AreUsable, FileCause, StopsAt};
+ghost use Rattle.session_load.specs.Usable.{kind_limit, IsContentOf, IsOfSize, AreUsable, FileCause, StopsAt};
 ghost use Rattle.net_defs.specs.Specifications.{IsSpecFault};
 ghost use Rattle.net_defs.specs.declared.specification.SpecError.TheVariants as spec_errors;
 
 use crate::fault::{FileFault, NotUsable};
-use crate::limits::{MAX_DELIVERY_BYTES, MAX_SESSION_BYTES};
+use crate::limits::MAX_SESSION_BYTES;
 use blif_defs::MAX_BYTES;
+use bundle_defs::MAX_BUNDLE_BYTES;
 use netlist::{SpecError, read_specification};
 use pch_io::{LoadFail, Store};
 use run_actors::Loaded;
@@ -28,13 +29,13 @@ fn kind_limit(kind: Kind) -> u64
 {
     match kind {
         Kind::Spec => MAX_BYTES as u64,
-        Kind::Bundle => MAX_DELIVERY_BYTES,
+        Kind::Bundle => MAX_BUNDLE_BYTES,
     }
 }
 
 /// What the bytes hold that are read as this kind.
 fn contents(alloc: Global, kind: Kind, bytes: Vec<u8>) -> Result<Loaded, SpecError>
-    ensures holds { IfOk result (λ l. Holds kind bytes.items (contents_of l)) }
+    ensures holds { IfOk result (λ l. IsContentOf kind bytes.items (contents_of l)) }
     ensures kind { IfErr result (λ _. kind ≡ kinds.Spec) }
     ensures fault { IfErr result (λ e. (e ≡ spec_errors.NoMemory) ⊎ IsSpecFault bytes.items e) }
 {
@@ -137,7 +138,7 @@ pub fn load_files<S: Store>(
     ensures calm { OnOk result (S.faults store.new ≡ S.faults store.old) }
     ensures usable { IfOk result (λ l. AreUsable (S.files store.old) 0 uses.now
         (map contents_of l.items)) }
-    ensures kinds { IfOk result (λ l. AreLoaded uses.now (map contents_of l.items)) }
+    ensures kinds { IfOk result (λ l. AreOfKinds uses.now (map contents_of l.items)) }
     ensures number { IfErr result (λ n. n.file < length uses.now) }
     ensures fault { IfErr result (λ n. StopsAt (S.files store.old) (S.faults store.old)
         (S.faults store.new) 0 uses.now n.file n.fault) }

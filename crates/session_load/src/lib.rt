@@ -17,7 +17,7 @@ mod usable;
 
 pub use fault::{FileFault, NoScript, NotUsable};
 pub use files::load_files;
-pub use limits::{MAX_DELIVERY_BYTES, MAX_SESSION_BYTES};
+pub use limits::MAX_SESSION_BYTES;
 pub use names::script_names_are_texts;
 pub use script::load_script;
 pub use usable::usable_files_describe_nets;

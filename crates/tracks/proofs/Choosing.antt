@@ -6,7 +6,7 @@ use Rattle.std.proofs.lemmas.List.{get_or-set_same, get_or-set_other, length-set
 use Rattle.std.proofs.lemmas.List.Sums.{sum_by-cons, sum_by_more, sum_by-set, sum_by-take-le}
 use Rattle.route_defs.specs.declared.span.Span.{Span}
 use Rattle.route_defs.specs.Spans.{span_at, no_span, IsLive, is_live, need}
-use Rattle.route_defs.specs.Tracks.{AreTracks, IsOrdered}
+use Rattle.route_defs.specs.Tracks.{AreTracks, BeginInOrder}
 use Rattle.tracks.specs.Ends.{taken, AreTaken}
 
 -- a test as a number
@@ -89,7 +89,7 @@ not_both spans have i t tracks ends channel from j c chosen less jlive ilive fre
 
 -- One more signal, which took track t where it is live: the ends have grown, and are counted right.
 pub chosen_more : (spans : List Span) (have i t : ℕ) (tracks ends now : List ℕ) (channel from later further : ℕ)
-    → AreChosen spans have i tracks ends channel from → IsOrdered spans → i < length spans
+    → AreChosen spans have i tracks ends channel from → BeginInOrder spans → i < length spans
     → length now ≡ have → AreTaken now later further → further ≤ length now → later ≤ (span_at spans i).first
     → ((u : ℕ) → get_or ends u 0 ≤ get_or now u 0)
     → ((span_at spans i).first < (span_at spans i).end
@@ -169,7 +169,7 @@ pub record IsGiven (span : Span) (t : ℕ) (ends : List ℕ) (channel : ℕ) (no
 
 -- so the tracks that are given are chosen
 pub chosen_given : (spans : List Span) (have i t : ℕ) (tracks ends now : List ℕ) (channel from later further : ℕ)
-    → AreChosen spans have i tracks ends channel from → IsOrdered spans → i < length spans
+    → AreChosen spans have i tracks ends channel from → BeginInOrder spans → i < length spans
     → IsGiven (span_at spans i) t ends channel now later further
     → AreChosen spans have (i + 1) (tracks ++ t ∷ []) now later further
 chosen_given spans have i t tracks ends now channel from later further chosen ordered lt given =

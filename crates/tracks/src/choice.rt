@@ -1,6 +1,6 @@
 ghost use Rattle.std.specs.Prelude.{◌≡◌, ◌+◌, ◌<◌, ◌≤◌, ◌^◌, ℕ, length, slice_index, slice_set, IfOk};
 ghost use Rattle.route_defs.specs.Spans.{need};
-ghost use Rattle.route_defs.specs.Tracks.{AreTracks, IsOrdered};
+ghost use Rattle.route_defs.specs.Tracks.{AreTracks, BeginInOrder};
 ghost use Rattle.tracks.specs.Ends.{taken, AreTaken};
 
 use route_defs::Span;
@@ -95,7 +95,7 @@ impl Ends {
 /// A track for each signal, so that no two that are live on one channel share one; 0 for a signal
 /// that is live nowhere. Fails for want of memory only.
 pub fn choose_tracks(alloc: Global, spans: &[Span], have: usize) -> Result<Vec<usize>, AllocError>
-    requires ordered { IsOrdered spans.now }
+    requires ordered { BeginInOrder spans.now }
     requires room { (c : ℕ) → need spans.now c ≤ have }
     ensures { IfOk result (λ tracks. AreTracks spans.now have tracks.items) }
 {

@@ -1,7 +1,7 @@
 use Rattle.std.proofs.Common.{◌≡◌, ◌<◌, ◌≤◌, ℕ, List, length, get_or, ap, subst, sym, ◌∙◌, arith}
 use Rattle.route_defs.specs.declared.span.Span.{Span}
 use Rattle.route_defs.specs.Spans.{need}
-use Rattle.route_defs.specs.Tracks.{IsOrdered}
+use Rattle.route_defs.specs.Tracks.{BeginInOrder}
 use Rattle.route_laws.specs.Seats.{seat_count, HaveSeats}
 use Rattle.place_laws.specs.Routings.{AreSeats}
 use Rattle.place_route.proofs.PlanLemmas.{CanBePlaced, columns-there, rows-there, are_seats, seats-count, seats-there, seats-apart, seated-ordered, seated-need, have_tracks_lent, written_place}
@@ -79,7 +79,7 @@ choose_tracks-requires-clause-ordered c =
     let are : AreSeats l g columns rows seats =
     are_seats l g columns rows spans c.inputs-inputs.result seats ready c.inputs-inputs.ensures.count c.in_ok-seats.ensures in
     let S : List ℕ → Type 0 = λ ss. HaveSeats c.inputs-inputs.result g spans ss (length spans) seated signals in
-    let O : List Span → Type 0 = λ ss. IsOrdered ss in
+    let O : List Span → Type 0 = λ ss. BeginInOrder ss in
     subst O (sym c.deref-2.ensures.value)
     (seated-ordered l g columns rows seats spans c.inputs-inputs.result seated signals ready are c.inputs-inputs.ensures.count
     (subst S c.deref.ensures.value c.in_ok-seating.ensures))

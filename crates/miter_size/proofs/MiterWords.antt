@@ -1,8 +1,7 @@
 -- How many words the clauses of a miter have, part by part.
-use Rattle.std.proofs.Common.{◌≡◌, ℕ, zero, suc, ◌+◌, ◌*◌, ◌^◌, ◌<◌, ◌≤◌, inl, inr, Bool, true, false, not, if◌then◌else◌, List, [], ◌∷◌, ◌++◌, length, map, take, get_or, sum_by, refl, ap, arith, length-append}
-use Rattle.std.proofs.Math.Nat.{mul-le-mul}
+use Rattle.std.proofs.Common.{◌≡◌, ℕ, zero, suc, ◌+◌, ◌*◌, ◌^◌, ◌<◌, ◌≤◌, inl, inr, Bool, not, List, [], ◌∷◌, ◌++◌, length, map, take, sum_by, refl, ◌∙◌, ap, arith, length-append, lit≤}
 use Rattle.std.proofs.lemmas.Bool.{cases_Bool}
-use Rattle.std.proofs.lemmas.List.{length-map}
+use Rattle.std.proofs.lemmas.List.{length-map, length_push}
 use Rattle.std.proofs.lemmas.List.Sums.{sum_by-cons, sum_by-append, sum_by_more, sum_by-take-le}
 use Rattle.blif_defs.specs.declared.mark.Mark.{Mark}
 use Rattle.blif_defs.specs.declared.mark.Mark.TheVariants.{Zero, One, Any}
@@ -15,12 +14,12 @@ use Rattle.fabric_defs.specs.declared.kind.CellKind.{CellKind}
 use Rattle.fabric_defs.specs.declared.kind.CellKind.TheVariants.{FourInputs, SixInputs}
 use Rattle.fabric_defs.specs.Kinds.{pins_of}
 use Rattle.fabric_defs.specs.Numbered.{list_of, joined}
-use Rattle.fabric_defs.specs.Geometries.{IsGeometry, cell_count, pin_count, table_bits}
+use Rattle.fabric_defs.specs.Geometries.{pin_count, table_bits}
 use Rattle.fabric_laws.proofs.LayoutLemmas.{cell_count-le}
 use Rattle.fabric_laws.proofs.NumberedLemmas.{length-list_of}
 use Rattle.cell_defs.specs.Cells.{CellsValue, AreCells, cell_at}
 use Rattle.cell_defs.specs.Cones.{in_cone}
-use Rattle.miter_defs.specs.Numberings.{zero_variable, node_variable, row_variable}
+use Rattle.miter_defs.specs.Numberings.{zero_variable, node_variable, row_variable, difference_variable}
 use Rattle.miter_defs.specs.Miters.{literal, positive, negative, mark_literals, row_literals, hit_clauses, cover_clauses, row_at, node_clauses, table_clause, cell_clauses, output_clauses, circuit_clauses, some_difference, Miter}
 use Rattle.miter_size.specs.declared.limits.TheConstants.{MAX_MITER_WORDS}
 use Rattle.miter_size.specs.Sizes.{original_words, OriginalWords}
@@ -127,7 +126,8 @@ module _ (net : Network) (v : ℕ) where
       let rows : List (List Mark) = (node_at net v).rows in
       let asked : Lits = row_literals (row_at net v n) (node_at net v).fan_ins in
       let counted : sum_by (λ row. length row + 2) (take (suc n) rows) ≡ sum_by (λ row. length row + 2) (take n rows) + (length (row_at net v n) + 2) =
-      rw (← add-one) (sum_by_more (λ (row : List Mark). length row + 2) rows n [] (omega arith)) in
+      ap (λ m. sum_by (λ (row : List Mark). length row + 2) (take m rows)) (let next : suc n ≡ n + 1 = omega arith in next)
+      ∙ sum_by_more (λ (row : List Mark). length row + 2) rows n [] (omega arith) in
       omega (
         arith,
         words-append (joined n of_row) (of_row n),
@@ -159,7 +159,8 @@ words-nodes net zero le = omega arith
 words-nodes net (suc n) le =
     let size = λ (node : Node). rows_size node.rows in
     let counted : sum_by size (take (suc n) net.nodes) ≡ sum_by size (take n net.nodes) + rows_size (node_at net n).rows =
-    rw (← add-one) (sum_by_more size net.nodes n no_node (omega arith)) in
+    ap (λ m. sum_by size (take m net.nodes)) (let next : suc n ≡ n + 1 = omega arith in next)
+    ∙ sum_by_more size net.nodes n no_node (omega arith) in
     omega (
       arith,
       words-append (joined n (node_clauses net)) (node_clauses net n),
@@ -177,7 +178,10 @@ table_words-le SixInputs = lit≤ tt
 
 -- a clause of a cell's table has a literal for each pin and one more
 length-table_clause : (net : Network) (cells : CellsValue) (k n : ℕ) → length (table_clause net cells k n) ≡ length (cell_at cells k).pins + 1
-length-table_clause net cells k n = ?
+length-table_clause net cells k n = one_more _ _ _
+  where
+    one_more : {X : Type 0} (m : ℕ) (f : ℕ → X) (x : X) → length (list_of m f ++ x ∷ []) ≡ m + 1
+    one_more m f x = length_push (list_of m f) x ∙ ap (λ i. i + 1) (length-list_of m f)
 
 -- a cell has at most 640 words
 words-cell : (net : Network) (cells : CellsValue) (k : ℕ) → length (cell_at cells k).pins ≡ pin_count cells.geometry → OriginalWords (cell_clauses net cells k) ≤ 640
@@ -186,7 +190,7 @@ words-cell net cells k pins = elim (cases_Bool (in_cone cells k)) [
       rw inside (omega (
         arith,
         words-list_of (table_bits cells.geometry) (pin_count cells.geometry + 4) (table_clause net cells k)
-        (λ n lt. omega (arith, length-table_clause net cells k n)),
+            (λ n lt. omega (arith, length-table_clause net cells k n)),
         table_words-le cells.geometry.kind,
       ))
   | inr outside ↦ rw outside (omega arith)
@@ -199,7 +203,7 @@ words-cells net cells h =
     omega (
       arith,
       words-joined (length cells.cells) 640 (cell_clauses net cells)
-      (λ k lt. words-cell net cells k (h.each k (omega (arith, h.count))).pins),
+          (λ k lt. words-cell net cells k (h.each k (omega (arith, h.count))).pins),
       few,
     )
 

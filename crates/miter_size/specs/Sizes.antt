@@ -2,7 +2,7 @@
 use Rattle.std.specs.Prelude.{◌≡◌, ℕ, ◌+◌, ◌<◌, ◌≤◌, ◌^◌, List, length, sum_by, Option, Some, None}
 use Rattle.clause_defs.specs.declared.verdict.TheConstants.{MAX_INDEX}
 use Rattle.clause_defs.specs.Clauses.{Lits}
-use Rattle.clause_defs.specs.Traces.{Entry, IsTrace, index_at}
+use Rattle.clause_defs.specs.Traces.{Entry, IsTrace}
 use Rattle.sat_text_defs.specs.declared.limits.TheConstants.{MAX_TRACE_BYTES}
 use Rattle.sat_text_defs.specs.Printed.{trace_text}
 use Rattle.net_defs.specs.Networks.{Network}

@@ -17,21 +17,21 @@ pub fn miter_has_few_words()
         → OriginalWords (Miter net cells).clauses ≤ MAX_MITER_WORDS }
 {}
 
-/// No word of a printed trace has more than eleven bytes, with the blank or the line feed behind it.
+/// The printed text of a trace has at most eleven bytes for each of its words.
 pub fn words_are_short()
     ensures { (t : List Entry) → IsTrace t
         → length (trace_text t) ≤ MAX_WORD_BYTES * TraceWords t }
 {}
 
-/// The trace of a log over a miter is within the limits of traces: its indices, and the length of its printed
-/// text.
+/// The trace of a log over a miter is within the limits of traces: its indices, and the length of
+/// its printed text.
 pub fn trace_fits()
     ensures { (net : Network) (config : ConfigValue) (log : LogValue) → IsMiterLog net config log
         → HasShortTrace log }
 {}
 
-/// A bundle of a configuration and of a trace that isn't too long is within the limits of bundles: the lengths
-/// of its parts, and the length of its file.
+/// A bundle of a configuration and of a trace that isn't too long is within the limits of bundles:
+/// the lengths of its parts, and the length of its file.
 pub fn bundle_fits()
     ensures { (version : ℕ) (config : ConfigValue) (trace : List ℕ) → IsConfig config
         → length trace ≤ MAX_TRACE_BYTES → BundleFits version config trace }

@@ -1,10 +1,10 @@
-//! How long the trace of a miter's log is: its text always fits the limit of a trace, and a bundle of it the
-//! limit of a bundle's file.
+//! How long the trace of a miter's log is: its text always fits the limit of a trace, and a bundle
+//! of it the limit of a bundle's file.
 //!
-//! What counts as a word, and what fits, stands in `specs/Sizes`. The words of a miter are counted part by
-//! part from the limits of nets and fabrics, those of the derived clauses are within a budget, and no word is
-//! printed with more than eleven bytes. Each function of this crate does nothing. Its contract is a law, which
-//! whoever calls it can rely on.
+//! What counts as a word, and what fits, stands in `specs/Sizes`. The words of a miter are counted
+//! part by part from the limits of nets and fabrics, those of the derived clauses are within a
+//! budget, and the text has at most eleven bytes for each word. Each function of this crate does
+//! nothing. Its contract is a law, which whoever calls it can rely on.
 #![tactic(auto)]
 
 mod laws;

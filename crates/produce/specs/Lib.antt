@@ -1,1 +1,4 @@
+pub mod Steps
 pub mod Endings
+pub mod Differences
+pub mod Bundling

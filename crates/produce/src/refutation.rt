@@ -6,11 +6,12 @@ ghost use Rattle.produce.specs.Endings.{IsRefutation, EndsBy};
 use crate::aligning::aligned_design;
 use crate::placing::placed_design;
 use crate::produce_end::ProduceEnd;
-use crate::refuting::{MAX_BUDGET, refuted_miter};
+use crate::refuting::refuted_miter;
 use fabric::{Config, Geometry};
 use netlist::Net;
 use proof_log::Log;
 use std::alloc::Global;
+use tree_defs::MAX_BUDGET;
 
 /// The placed design, with a log that refutes the miter of the specification and the placed design.
 #[derive(Debug, Drop)]

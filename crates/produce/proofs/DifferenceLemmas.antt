@@ -19,14 +19,14 @@ pairs_again spec design net error is_net a fault =
     let same = interface_is_unique spec design (Ok a.pairing) (Err error) is_net a.is_pairing fault in cc
 
 -- there is one pairing, and one network in its order
-aligned_unique : (spec design net other : Network) → IsNet design → AlignedTo spec design net → AlignedTo spec design other → net ≡ other
+pub aligned_unique : (spec design net other : Network) → IsNet design → AlignedTo spec design net → AlignedTo spec design other → net ≡ other
 aligned_unique spec design net other is_net a b =
     let one : Ok a.pairing ≡ Ok b.pairing = interface_is_unique spec design (Ok a.pairing) (Ok b.pairing) is_net a.is_pairing b.is_pairing in
     let same : a.pairing ≡ b.pairing = cc in
     IsAligned-unique design b.pairing net other b.pairs (subst (λ p. IsAligned design p net) same a.aligned) b.aligned
 
 -- a network has one list of outputs at an input
-outputs_unique : (net : Network) (x y z : List ℕ) → IsNet net → SpecOut net x y → SpecOut net x z → y ≡ z
+pub outputs_unique : (net : Network) (x y z : List ℕ) → IsNet net → SpecOut net x y → SpecOut net x z → y ≡ z
 outputs_unique net x y z is_net h k =
     h.2 ∙ ap (λ a. bits_at a (output_signals net)) (assignment_is_unique net x h.0 k.0 is_net.acyclic h.1 k.1) ∙ sym k.2
 

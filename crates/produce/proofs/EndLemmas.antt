@@ -127,14 +127,7 @@ pub refutation_of : (spec design net : Network) (g : GeometryValue) (config : Co
     → AlignedTo spec design net → Placed net g config → Equal net config → Refuted spec config budget log
     → IsRefutation spec design g budget config log
 refutation_of spec design net g config budget log a placed equal refuted =
-    let of = placed.2 in
-    record {
-      net = net;
-      aligned = a;
-      fits = subst (FitsPads spec) of.0 (spec_fits spec design net config a equal);
-      placed = placed;
-      refuted = refuted;
-    }
+    record { net = net; aligned = a; placed = placed; equal = equal; refuted = refuted }
 
 -- where the pads of the placed design aren't the specification's outputs, the aligned design's outputs aren't
 pub other_outputs : (spec design net : Network) (config : ConfigValue) (x : List ℕ) → AlignedTo spec design net → IsNet net

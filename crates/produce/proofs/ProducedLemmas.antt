@@ -10,10 +10,12 @@ use Rattle.fabric_defs.specs.Configurations.{ConfigValue, IsConfig}
 use Rattle.cell_laws.proofs.CellsExistence.{cells_exist}
 use Rattle.log_defs.specs.Logs.{LogValue}
 use Rattle.log_laws.proofs.TraceOfLemmas.{trace_refutes}
+use Rattle.miter_defs.specs.Equality.{FitsPads}
 use Rattle.verify_defs.specs.Acceptance.{HasParts, ShowsOfMiter}
 use Rattle.produce.specs.Steps.{steps_of}
 use Rattle.produce.specs.Endings.{Refuted, IsRefutation}
 use Rattle.produce.specs.Bundling.{Produced}
+use Rattle.produce.proofs.EndLemmas.{spec_fits}
 
 -- the trace of the log refutes the miter
 shows : (spec : Network) (config : ConfigValue) (budget : ℕ) (log : LogValue) → IsConfig config → Refuted spec config budget log
@@ -40,8 +42,9 @@ produced_of spec design g budget config log bytes refutation is_config parts =
       aligned = refutation.aligned;
       config = config;
       placed = placed;
+      equal = refutation.equal;
       accepted = record {
-        fits = refutation.fits;
+        fits = subst (FitsPads spec) of.0 (spec_fits spec design refutation.net config refutation.aligned refutation.equal);
         steps = steps_of log;
         parts = subst P of.0 parts;
         refutes = shows spec config budget log is_config refutation.refuted;

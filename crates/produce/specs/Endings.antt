@@ -17,7 +17,7 @@ use Rattle.tree_defs.specs.Trees.{DiffersAt}
 use Rattle.tree_defs.specs.declared.tree_end.TreeEnd.{TreeEnd}
 use Rattle.tree_defs.specs.declared.tree_end.TreeEnd.TheVariants.{Empty, Differs as DiffersInSearch, Spent as SpentInSearch}
 use Rattle.place_net.specs.Placings.{Placed, FirstOver}
-use Rattle.miter_defs.specs.Equality.{FitsPads}
+use Rattle.miter_defs.specs.Equality.{Equal}
 use Rattle.produce.specs.Steps.{HasShortText}
 use Rattle.produce.specs.declared.produce_end.ProduceEnd.{ProduceEnd}
 use Rattle.produce.specs.declared.produce_end.ProduceEnd.TheVariants.{Interface, Unroutable, Differs, Spent, NoMemory}
@@ -93,12 +93,12 @@ answer_of (Empty index) log = Ok log
 answer_of (DiffersInSearch x) log = Err (Differs x)
 answer_of (SpentInSearch used need) log = Err (Spent used need log)
 
--- the placed design, on whose pads the specification fits, and a log that refutes the miter of the two
+-- the placed design, which computes the design, and a log that refutes the miter of the specification and this
 pub record IsRefutation (spec design : Network) (g : GeometryValue) (budget : ℕ) (config : ConfigValue) (log : LogValue) : Type 0 where
   pub net : Network
   pub aligned : AlignedTo spec design net
-  pub fits : FitsPads spec g
   pub placed : Placed net g config
+  pub equal : Equal net config
   pub refuted : Refuted spec config budget log
 
 -- The cause of each end. An interface that doesn't pair stands before a resource that is wanting, and both stand

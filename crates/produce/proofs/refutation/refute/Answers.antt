@@ -6,7 +6,7 @@ pub refuted_miter-requires-clause-fits : goal.refuted_miter-requires-clause-fits
 refuted_miter-requires-clause-fits c =
     spec_fits c.args.spec.now c.args.design.now c.in_ok-net.net c.in_ok-config.config c.in_ok-net.ensures.aligned c.in_ok-config.ensures.equal
 
--- the specification fits the pads of the fabric
+-- what was aligned, placed and refuted is a refutation
 pub returns-clause-refutation : goal.returns-clause-refutation
 returns-clause-refutation c =
     refutation_of c.args.spec.now c.args.design.now c.in_ok-net.net c.args.g c.in_ok-config.config c.args.budget c.in-Ok.log

@@ -4,7 +4,7 @@ use Rattle.std.specs.declared.alloc.Global.{Global}
 use Rattle.fabric_defs.specs.declared.kind.CellKind.{CellKind}
 use Rattle.pch_lines.specs.Words.{words_in, verify_form, verify_with, place_form, produce_form, produce_with, fabric_form, fabric_in, count_in}
 use Rattle.script_defs.specs.declared.limits.TheConstants.{MAX_WORKERS}
-use Rattle.tree_defs.specs.declared.budget.TheConstants.{MAX_BUDGET}
+use Rattle.miter_size.specs.declared.limits.TheConstants.{MAX_BUDGET}
 
 -- fewer than six words behind two files verify nothing
 pub too_few : (kind : CellKind) (spec bundle : List ℕ) (ws : List (String Global)) → length ws < 6 → verify_form kind spec bundle (words_in ws) ≡ None

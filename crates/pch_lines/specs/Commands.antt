@@ -1,7 +1,7 @@
 -- What contracts see of a command.
 use Rattle.std.specs.Prelude.{◌≤◌}
 use Rattle.script_defs.specs.declared.limits.TheConstants.{MAX_WORKERS}
-use Rattle.tree_defs.specs.declared.budget.TheConstants.{MAX_BUDGET}
+use Rattle.miter_size.specs.declared.limits.TheConstants.{MAX_BUDGET}
 use Rattle.pch_lines.specs.declared.command.Command.{Command}
 use Rattle.pch_lines.specs.declared.command.Command.TheVariants.{Check, Verify, Cnf, Compact, Place, Produce}
 use Rattle.pch_lines.specs.declared.command.NamedFile.{NamedFile}

@@ -8,7 +8,7 @@ use Rattle.fabric_defs.specs.declared.kind.CellKind.TheVariants.{FourInputs, Six
 use Rattle.fabric_defs.specs.Geometries.{GeometryValue}
 use Rattle.fabric_defs.specs.declared.limits.TheConstants.{MAX_SIDE, MAX_TRACKS}
 use Rattle.script_defs.specs.declared.limits.TheConstants.{MAX_WORKERS}
-use Rattle.tree_defs.specs.declared.budget.TheConstants.{MAX_BUDGET}
+use Rattle.miter_size.specs.declared.limits.TheConstants.{MAX_BUDGET}
 
 -- the words of a command line, without the program's own name
 abbrev pub words_in : List (String Global) → List (List ℕ)

@@ -7,9 +7,9 @@ ghost use Rattle.pch_lines.specs.Commands.{form_seen, IsWithinLimits};
 use crate::command::Command;
 use fabric::Geometry;
 use fabric_defs::{CellKind, MAX_SIDE, MAX_TRACKS};
+use miter_size::MAX_BUDGET;
 use pch_base::read_number;
 use script_defs::MAX_WORKERS;
-use tree_defs::MAX_BUDGET;
 
 /// The command of these words, if they have one of the forms. Behind the word `six` stands a command
 /// that names a fabric, whose cells have six inputs then.

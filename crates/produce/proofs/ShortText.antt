@@ -5,7 +5,7 @@ use Rattle.net_defs.specs.Nets.{IsNet}
 use Rattle.fabric_defs.specs.Configurations.{ConfigValue, IsConfig}
 use Rattle.cell_laws.proofs.CellsExistence.{cells_exist}
 use Rattle.log_defs.specs.Logs.{LogValue, IsLog}
-use Rattle.tree_defs.specs.declared.budget.TheConstants.{MAX_BUDGET}
+use Rattle.miter_size.specs.declared.limits.TheConstants.{MAX_BUDGET}
 use Rattle.produce.specs.Steps.{HasShortText}
 use Rattle.produce.specs.Endings.{IsOverMiter}
 

@@ -8,9 +8,9 @@ use crate::bundling::bundled;
 use crate::produce_end::ProduceEnd;
 use crate::refutation::{Refutation, refute};
 use fabric::Geometry;
+use miter_size::MAX_BUDGET;
 use netlist::Net;
 use std::alloc::Global;
-use tree_defs::MAX_BUDGET;
 
 /// The bytes of a bundle with the placed design that is accepted for the specification on the fabric, or
 /// why there is none (`EndsBy`). `budget`, from 1 to 4,194,304, is how many words the derived clauses of

@@ -8,10 +8,10 @@ use crate::placing::placed_design;
 use crate::produce_end::ProduceEnd;
 use crate::refuting::refuted_miter;
 use fabric::{Config, Geometry};
+use miter_size::MAX_BUDGET;
 use netlist::Net;
 use proof_log::Log;
 use std::alloc::Global;
-use tree_defs::MAX_BUDGET;
 
 /// The placed design, with a log that refutes the miter of the specification and the placed design.
 #[derive(Debug, Drop)]

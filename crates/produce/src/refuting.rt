@@ -8,11 +8,12 @@ use crate::produce_end::ProduceEnd;
 use extract::extract;
 use fabric::Config;
 use miter_cnf::miter;
+use miter_size::MAX_BUDGET;
 use netlist::Net;
 use pch_base::NoMemory;
 use proof_log::Log;
 use std::alloc::Global;
-use tree_defs::{MAX_BUDGET, TreeEnd};
+use tree_defs::TreeEnd;
 use tree_refute::tree;
 
 /// A log with the miter as its clauses, and nothing derived yet.

@@ -7,13 +7,13 @@ ghost use Rattle.pch_shell.specs.Produce.{ToldOfEnd, CanBeTold, ProduceDue};
 use crate::commands::verifying::bad_spec;
 use crate::ending::Ending;
 use fabric::Geometry;
+use miter_size::MAX_BUDGET;
 use netlist::{Net, read_specification};
 use pch_base::NoMemory;
 use pch_lines::{differs_line, interface_line, spent_line, unroutable_line};
 use produce::{ProduceEnd, outputs_at, printed_log, produce};
 use route_defs::Demand;
 use std::alloc::Global;
-use tree_defs::MAX_BUDGET;
 
 /// Reads and builds the specification and the design, and produces a bundle, which is what is saved. Where
 /// the budget is spent, the trace of the log so far is saved.

@@ -12,7 +12,7 @@ use Rattle.route_defs.specs.declared.demand.Demand.{Demand}
 use Rattle.place_net.specs.Placings.{FirstOver}
 use Rattle.produce.specs.declared.produce_end.ProduceEnd.{ProduceEnd}
 use Rattle.produce.specs.declared.produce_end.ProduceEnd.TheVariants.{Interface, Unroutable, Differs, Spent, NoMemory}
-use Rattle.produce.specs.Steps.{steps_of, HasShortText}
+use Rattle.miter_size.specs.Sizes.{log_trace, HasShortTrace}
 use Rattle.produce.specs.Endings.{AlignedTo, EndsBy}
 use Rattle.produce.specs.Differences.{DifferAt, DifferWith}
 use Rattle.produce.specs.Bundling.{Produced}
@@ -59,7 +59,7 @@ pub record IsSpent (g : GeometryValue) (budget : ℕ) (spec design : List ℕ) (
   pub describe : Describe spec design wanted given
   pub log : LogValue
   pub ends : EndsBy wanted given g budget (Spent used need log)
-  pub trace : TraceText bytes 1 (steps_of log)
+  pub trace : TraceText bytes 1 (log_trace log)
 
 -- this is the first name of the specification or the design that has no partner
 pub record HasLoneName (spec design : List ℕ) (error : InterfaceError) : Type 0 where
@@ -82,7 +82,7 @@ ToldOfEnd wanted given (Unroutable resource place need have) o =
 ToldOfEnd wanted given (Differs x) o =
     (y : List ℕ) × (z : List ℕ) × DifferWith wanted given x y z × (o ≡ differs (differs_line x y z))
 ToldOfEnd wanted given (Spent used need log) o =
-    (bytes : List ℕ) × TraceText bytes 1 (steps_of log) × (o ≡ spent_with bytes (spent_line used need))
+    (bytes : List ℕ) × TraceText bytes 1 (log_trace log) × (o ≡ spent_with bytes (spent_line used need))
 ToldOfEnd wanted given NoMemory o = ⊥
 
 -- what the telling of a reason rests on: that both differ at an input, and that a log has a text that can be read
@@ -90,7 +90,7 @@ abbrev pub CanBeTold : Network → Network → ProduceEnd → Type 0
 CanBeTold wanted given (Interface error) = Unit {0}
 CanBeTold wanted given (Unroutable resource place need have) = Unit {0}
 CanBeTold wanted given (Differs x) = DifferAt wanted given x
-CanBeTold wanted given (Spent used need log) = HasShortText log
+CanBeTold wanted given (Spent used need log) = HasShortTrace log
 CanBeTold wanted given NoMemory = Unit {0}
 
 -- what `produce` of the bytes of both files comes to

@@ -23,7 +23,7 @@ use Rattle.tree_defs.specs.declared.tree_end.TreeEnd.TheVariants.{Empty, Differs
 use Rattle.place_net.specs.Placings.{Placed}
 use Rattle.produce.specs.declared.produce_end.ProduceEnd.{ProduceEnd}
 use Rattle.produce.specs.declared.produce_end.ProduceEnd.TheVariants.{Interface, Unroutable, Differs, Spent, NoMemory}
-use Rattle.produce.specs.Steps.{HasShortText}
+use Rattle.miter_size.specs.Sizes.{HasShortTrace}
 use Rattle.produce.specs.Endings.{AlignedTo, HaveOtherOutputs, IsOverMiter, Refuted, SpentAt, Unrefuted, IsRefutation, EndsBy, answer_of}
 
 -- a clause with the literals of none has none
@@ -50,7 +50,7 @@ grown_miter spec config before after more over cells of = more.originals ∙ ove
 
 -- the empty clause that was found is the last one
 found_empty : (spec : Network) (config : ConfigValue) (budget : ℕ) (before after : LogValue) (index : ℕ) → IsOverMiter spec config before
-    → before.derived ≡ [] → before.budget ≡ budget → Extends before after → IsLog after → HasShortText after → IsRefuted before after index
+    → before.derived ≡ [] → before.budget ≡ budget → Extends before after → IsLog after → HasShortTrace after → IsRefuted before after index
     → Refuted spec config budget after
 found_empty spec config budget before after index over nothing same more is_log short found =
     let last = found.last (none_empty before nothing) in
@@ -65,7 +65,7 @@ found_empty spec config budget before after index over nothing same more is_log 
 
 -- the budget that was spent is less than what is enough
 spent_all : (spec : Network) (config : ConfigValue) (budget : ℕ) (before after : LogValue) (used need : ℕ) → IsOverMiter spec config before
-    → before.derived ≡ [] → before.budget ≡ budget → Extends before after → IsLog after → HasShortText after
+    → before.derived ≡ [] → before.budget ≡ budget → Extends before after → IsLog after → HasShortTrace after
     → IsSpentAt spec before after used need → SpentAt spec config budget used need after
 spent_all spec config budget before after used need over nothing same more is_log short spent =
     let words : Words before.derived ≡ 0 = ap Words nothing in
@@ -85,7 +85,7 @@ spent_all spec config budget before after used need over nothing same more is_lo
 
 -- what is answered where the log is a refutation
 pub answered_ok : (spec : Network) (config : ConfigValue) (budget : ℕ) (before after : LogValue) (end : TreeEnd) → IsOverMiter spec config before
-    → before.derived ≡ [] → before.budget ≡ budget → Extends before after → IsLog after → HasShortText after
+    → before.derived ≡ [] → before.budget ≡ budget → Extends before after → IsLog after → HasShortTrace after
     → TreeEnds spec config before end after
     → IfOk (answer_of end after) (Refuted spec config budget)
 answered_ok spec config budget before after (Empty index) over nothing same more is_log short ends =
@@ -95,7 +95,7 @@ answered_ok spec config budget before after (SpentInSearch used need) over nothi
 
 -- and where it isn't
 pub answered_err : (spec : Network) (config : ConfigValue) (budget : ℕ) (before after : LogValue) (end : TreeEnd) → IsOverMiter spec config before
-    → before.derived ≡ [] → before.budget ≡ budget → Extends before after → IsLog after → HasShortText after
+    → before.derived ≡ [] → before.budget ≡ budget → Extends before after → IsLog after → HasShortTrace after
     → TreeEnds spec config before end after
     → IfErr (answer_of end after) (Unrefuted spec config budget)
 answered_err spec config budget before after (Empty index) over nothing same more is_log short ends = tt

@@ -18,7 +18,7 @@ use Rattle.tree_defs.specs.declared.tree_end.TreeEnd.{TreeEnd}
 use Rattle.tree_defs.specs.declared.tree_end.TreeEnd.TheVariants.{Empty, Differs as DiffersInSearch, Spent as SpentInSearch}
 use Rattle.place_net.specs.Placings.{Placed, FirstOver}
 use Rattle.miter_defs.specs.Equality.{Equal}
-use Rattle.produce.specs.Steps.{HasShortText}
+use Rattle.miter_size.specs.Sizes.{HasShortTrace}
 use Rattle.produce.specs.declared.produce_end.ProduceEnd.{ProduceEnd}
 use Rattle.produce.specs.declared.produce_end.ProduceEnd.TheVariants.{Interface, Unroutable, Differs, Spent, NoMemory}
 
@@ -46,7 +46,7 @@ IsOverMiter spec config log = (cells : CellsValue) → AreCellsOf config cells �
 pub record Refuted (spec : Network) (config : ConfigValue) (budget : ℕ) (log : LogValue) : Type 0 where
   pub over_miter : IsOverMiter spec config log
   pub is_log : IsLog log
-  pub short : HasShortText log
+  pub short : HasShortTrace log
   pub budget_is : log.budget ≡ budget
   pub empty : EndsWithEmpty log.originals.clauses log.derived
 
@@ -55,7 +55,7 @@ pub record Refuted (spec : Network) (config : ConfigValue) (budget : ℕ) (log :
 pub record SpentAt (spec : Network) (config : ConfigValue) (budget used need : ℕ) (log : LogValue) : Type 0 where
   pub over_miter : IsOverMiter spec config log
   pub is_log : IsLog log
-  pub short : HasShortText log
+  pub short : HasShortTrace log
   pub used_is : used ≡ Words log.derived
   pub need_low : 4 ≤ need
   pub need_high : need ≤ 2 * log.originals.variables + 4

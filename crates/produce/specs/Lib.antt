@@ -1,4 +1,3 @@
-pub mod Steps
 pub mod Endings
 pub mod Differences
 pub mod Bundling

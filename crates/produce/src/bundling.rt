@@ -4,8 +4,8 @@ ghost use Rattle.std.specs.Prelude.{◌≡◌, ℕ, IfOk};
 ghost use Rattle.sat_text_defs.specs.Printed.{trace_text};
 ghost use Rattle.sat_text_defs.specs.TraceText.{TraceText};
 ghost use Rattle.bundle_defs.specs.Bundles.{IsVersion, kind_of_version};
+ghost use Rattle.miter_size.specs.Sizes.{log_trace, HasShortTrace};
 ghost use Rattle.verify_defs.specs.Acceptance.{HasParts};
-ghost use Rattle.produce.specs.Steps.{steps_of, HasShortText};
 ghost use Rattle.produce.specs.Bundling.{version_of};
 
 use bundle::print_bundle;
@@ -19,20 +19,18 @@ use std::alloc::Global;
 
 /// The text of the trace that the log is, which is read again in each version of bundles.
 pub fn printed_log(alloc: Global, log: Log) -> Result<Vec<u8>, NoMemory>
-    requires short { HasShortText log }
-    ensures text { IfOk result (λ text. text.items ≡ trace_text (steps_of log)) }
-    ensures reads { IfOk result (λ text. (v : ℕ) → TraceText text.items v (steps_of log)) }
+    requires short { HasShortTrace log }
+    ensures text { IfOk result (λ text. text.items ≡ trace_text (log_trace log)) }
+    ensures reads { IfOk result (λ text. (v : ℕ) → TraceText text.items v (log_trace log)) }
 {
-    let steps = log.into_trace(alloc)?;
-    let _len = steps.len();
-    print_trace(alloc, &steps)
+    print_trace(alloc, &log.into_trace(alloc)?)
 }
 
 /// The bytes of the bundle of a configuration and of the trace that the log is.
 pub(crate) fn bundled(alloc: Global, config: &Config, log: Log) -> Result<Vec<u8>, NoMemory>
-    requires short { HasShortText log }
+    requires short { HasShortTrace log }
     ensures { IfOk result
-        (λ bytes. HasParts config.now.geometry bytes.items config.now (steps_of log)) }
+        (λ bytes. HasParts config.now.geometry bytes.items config.now (log_trace log)) }
 {
     let geometry = config.geometry();
     let _few_words = geometry.words();

@@ -37,7 +37,7 @@ same_outputs wanted given net config is_net is_config aligned first second x y b
     let pads = pad_bits config (wiring config x) in
     let wired : FabOut config x pads = (wiring config x, wiring_is_wired config x (λ column t. track_word-le config column t is_config), refl) in
     let ins : length net.inputs ≡ length wanted.inputs =
-        ap (λ (names : List (List ℕ)). length names) (aligned_inputs wanted given net aligned) in
+    ap (λ (names : List (List ℕ)). length names) (aligned_inputs wanted given net aligned) in
     let own : IsBits (length net.inputs) x = subst (λ n. IsBits n x) (sym ins) bits in
     let settled = assignment_exists net x is_net.acyclic own.count in
     let z = bits_at settled.0 (output_signals net) in
@@ -62,7 +62,7 @@ produced_same g spec design bytes wanted given net d aligned h =
     let placed = p.placed in
     let of = placed.2 in
     let equal = subst (λ n. Equal n p.config) w (equal_where_accepted g h.wanted bytes p.config
-        (subst IsNet (sym w) is_wanted) p.accepted) in
+    (subst IsNet (sym w) is_wanted) p.accepted) in
     same_outputs wanted given net p.config is_net of.6.configuration aligned equal (subst (λ n. Equal n p.config) one p.equal)
 
 -- where a difference is told, they haven't
@@ -111,8 +111,8 @@ enough_not_spent g budget spec design used need bytes wanted given net d aligned
     let same = ap (λ (f : Formula). f.variables) (e.4.over_miter cells.0 cells.1) in
     let scarce = e.4.scarce in
     let here : budget < Enough (length wanted.inputs) (Miter wanted cells.0).variables =
-        subst (λ n. budget < Enough (length n.inputs) (Miter n cells.0).variables) w
-        (subst (λ v. budget < Enough (length h.wanted.inputs) v) same scarce) in
+    subst (λ n. budget < Enough (length n.inputs) (Miter n cells.0).variables) w
+    (subst (λ v. budget < Enough (length h.wanted.inputs) v) same scarce) in
     omega (arith, most, here)
 
 -- what `produce` comes to where the names pair and no resource is over

@@ -26,10 +26,18 @@ pub fn interface_line(alloc: Global, error: InterfaceError) -> Result<Vec<u8>, N
     let front = Line::new(alloc, "interface")?;
     match error {
         InterfaceError::Input { side, place } => {
-            front.word("input")?.word(side_word(side))?.number(place)?.end()
+            front
+                .word("input")?
+                .word(side_word(side))?
+                .number(place)?
+                .end()
         }
         InterfaceError::Output { side, place } => {
-            front.word("output")?.word(side_word(side))?.number(place)?.end()
+            front
+                .word("output")?
+                .word(side_word(side))?
+                .number(place)?
+                .end()
         }
         InterfaceError::NoMemory => Err(NoMemory),
     }
@@ -39,7 +47,11 @@ pub fn interface_line(alloc: Global, error: InterfaceError) -> Result<Vec<u8>, N
 pub fn differs_line(alloc: Global, x: Bits, spec: Bits, design: Bits) -> Result<Vec<u8>, NoMemory>
     ensures { IfOk result (λ text. text.items ≡ differs_line x spec design) }
 {
-    Line::new(alloc, "differs")?.bits(x)?.bits(spec)?.bits(design)?.end()
+    Line::new(alloc, "differs")?
+        .bits(x)?
+        .bits(spec)?
+        .bits(design)?
+        .end()
 }
 
 /// The line of a spent budget: the words that were used, and those of the next clause.

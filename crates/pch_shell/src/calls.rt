@@ -65,7 +65,15 @@ fn work<R: Threads + Sync>(
             ..
         } => {
             let (spec_bytes, design_bytes) = loaded.two();
-            producing::run(alloc, spec, design, geometry, budget, spec_bytes, design_bytes)
+            producing::run(
+                alloc,
+                spec,
+                design,
+                geometry,
+                budget,
+                spec_bytes,
+                design_bytes,
+            )
         }
     }
 }

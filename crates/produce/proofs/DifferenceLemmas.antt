@@ -38,7 +38,7 @@ differ_with spec design net x y z is_spec is_design is_net differs a of_spec of_
     let same : differs.0 ≡ net = aligned_unique spec design differs.0 net is_design differs.1 a in
     let first : y ≡ other.outputs = outputs_unique spec x y other.outputs is_spec of_spec other.of_spec in
     let second : z ≡ other.others =
-        outputs_unique net x z other.others is_net of_net (subst (λ n. SpecOut n x other.others) same other.of_net) in
+    outputs_unique net x z other.others is_net of_net (subst (λ n. SpecOut n x other.others) same other.of_net) in
     record {
       net = net;
       aligned = a;

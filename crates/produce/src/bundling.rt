@@ -36,7 +36,13 @@ pub(crate) fn bundled(alloc: Global, config: &Config, log: Log) -> Result<Vec<u8
     let _few_words = geometry.words();
     let words = print_config(alloc, config)?;
     let steps = printed_log(alloc, log)?;
-    print_bundle(alloc, version_for(geometry.cell_kind()), geometry, &words, &steps)
+    print_bundle(
+        alloc,
+        version_for(geometry.cell_kind()),
+        geometry,
+        &words,
+        &steps,
+    )
 }
 
 /// The version of a bundle for cells of this kind, whose trace states the literals of each clause.

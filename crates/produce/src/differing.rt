@@ -19,12 +19,7 @@ pub struct BothOutputs {
 }
 
 /// The outputs of the specification and of the design at an input where they differ.
-pub fn outputs_at(
-    alloc: Global,
-    spec: &Net,
-    design: &Net,
-    x: Bits,
-) -> Result<BothOutputs, NoMemory>
+pub fn outputs_at(alloc: Global, spec: &Net, design: &Net, x: Bits) -> Result<BothOutputs, NoMemory>
     requires { DifferAt spec.now design.now x }
     ensures { IfOk result (λ both. DifferWith spec.now design.now x both.spec both.design) }
 {

@@ -17,7 +17,7 @@ returns-clause-refuted c =
     let same = searched.extends.budget in
     let at = opened.budget in
     let short = short_trace spec config after c.inputs-inputs.ensures.net c.geometry-geometry.ensures.known over c.used-used.ensures.log
-        (omega (arith, c.requires.budget)) in
+    (omega (arith, c.requires.budget)) in
     subst (λ r. IfOk r (Refuted spec config c.args.budget)) (sym c.answer_of.ensures)
     (answered_ok spec config c.args.budget before after c.in-Ok-tree.end opened.over_miter opened.nothing opened.budget searched.extends
     c.used-used.ensures.log short searched.ends)

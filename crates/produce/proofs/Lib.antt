@@ -1,3 +1,7 @@
 pub mod EndLemmas
 pub mod BudgetLemmas
 pub mod SizeLemmas
+pub mod ShortTrace
+pub mod StepsLemmas
+pub mod ProducedLemmas
+pub mod DifferenceLemmas

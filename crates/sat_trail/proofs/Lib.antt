@@ -1,0 +1,12 @@
+pub mod OtherLemmas
+pub mod MoveLemmas
+pub mod VisitLemmas
+pub mod SettledLemmas
+pub mod PlaceLemmas
+pub mod LevelLemmas
+pub mod StageLemmas
+pub mod LookLemmas
+pub mod TurnLemmas
+pub mod VisitCases
+pub mod BoundLemmas
+pub mod TrailLemmas

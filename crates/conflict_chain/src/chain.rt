@@ -1,9 +1,10 @@
-ghost use Rattle.std.specs.Prelude.{◌≡◌, ◌≢◌, ℕ, ◌+◌, ◌<◌, ◌≤◌, ◌↔◌, ◌⊎◌, [], ◌∷◌, ◌++◌, length, take, vec_capacity, IfOk, IsTrue};
+ghost use Rattle.std.specs.Prelude.{◌≡◌, ◌≢◌, ℕ, ◌+◌, ◌<◌, ◌≤◌, ◌↔◌, ◌⊎◌, [], ◌∷◌, ◌++◌, length, take, get_or, vec_capacity, IfOk, IsTrue, if◌then◌else◌};
 ghost use Rattle.clause_defs.specs.Literals.{Literal, negation};
 ghost use Rattle.clause_defs.specs.Clauses.{Has, SameSet, IsOrdered, WithinVariables};
 ghost use Rattle.clause_defs.specs.declared.verdict.TheConstants.{MAX_VARIABLE};
 ghost use Rattle.log_defs.specs.Logs.{IsIndexOf, clause_of_log};
-ghost use Rattle.conflict_chain.specs.Conflicts.{IsConsistent, IsFalseUnder, IsReason, IsAt, IsChain, IsSplit, IsConflict, ClashesOnce, AreOthersOf, level_of};
+ghost use Rattle.trail_defs.specs.Assignments.{AreApart, IsAt, Implies};
+ghost use Rattle.conflict_chain.specs.Conflicts.{IsChain, IsSplit, IsChainAt, ClashesOnce, AreOthersOf};
 ghost use Rattle.conflict_chain.specs.Kept.{is_running, is_present};
 
 use clause_defs::MAX_VARIABLE;
@@ -85,20 +86,28 @@ impl ConflictChain {
 
     /// Resolves with the reason of the literal at place `i` of the list, the clause with this index. The
     /// running clause has the literal's negation.
-    pub fn resolve_at(&mut self, trail: &[Lit], i: usize, log: &Log, index: u32, levels: &[u32], level: u32)
-        requires conflict { IsConflict log.now trail.now (i + 1) self.old }
+    pub fn resolve_at(
+        &mut self,
+        trail: &[Lit],
+        i: usize,
+        log: &Log,
+        index: u32,
+        levels: &[u32],
+        level: u32,
+    )
+        requires conflict { IsChainAt log.now trail.now (i + 1) self.old }
         requires split { IsSplit levels.now level self.old }
-        requires consistent { IsConsistent trail.now }
+        requires apart { AreApart trail.now }
         requires few { length trail.now ≤ self.old.variables }
         requires place { i < length trail.now }
         requires there { (l : Literal) → IsAt trail.now i l → Has self.old.lits (negation l) }
         requires index { IsIndexOf log.now index }
         requires reason { (l : Literal) → IsAt trail.now i l
-            → IsReason (take i trail.now) l (clause_of_log log.now index) }
+            → Implies (take i trail.now) (clause_of_log log.now index) l }
         requires within { WithinVariables self.old.variables (clause_of_log log.now index) }
         requires levels { self.old.variables < length levels.now }
         ensures variables { self.new.variables ≡ self.old.variables }
-        ensures conflict { IsConflict log.now trail.now i self.new }
+        ensures conflict { IsChainAt log.now trail.now i self.new }
         ensures split { IsSplit levels.now level self.new }
         ensures lits { (l : Literal) → IsAt trail.now i l
             → AreOthersOf self.old.lits (clause_of_log log.now index) l self.new.lits }
@@ -133,7 +142,7 @@ impl ConflictChain {
         requires { l.variable ≤ self.now.variables }
         ensures { IsTrue result ↔ Has self.now.lits l }
     {
-        self.marks[l.code() as usize] != ABSENT
+        self.marks[l.code() as usize] > ABSENT
     }
 
     /// Whether it does and is of the present level.
@@ -172,7 +181,7 @@ impl ConflictChain {
             if self.marks[code] == ABSENT {
                 continue;
             }
-            lits.push_reserved(Lit::from_parts(code as u32 / 2, code % 2 == 1));
+            lits.push_reserved(Lit::from_parts((code / 2) as u32, code % 2 == 1));
         }
     }
 
@@ -214,7 +223,7 @@ impl ConflictChain {
             ↔ ((Has self.old.present x × (x ≢ l)) ⊎ (IsTrue (is_present mark) × (x ≡ l))) }
     {
         let place = l.code() as usize;
-        self.count = self.count + usize::from(mark > OTHER) - usize::from(self.marks[place] > OTHER);
+        self.count = self.count + counted(mark) - counted(self.marks[place]);
         self.marks[place] = mark;
     }
 }
@@ -223,11 +232,18 @@ impl ConflictChain {
 fn mark_of(l: Lit, levels: &[u32], level: u32) -> u8
     requires { l.variable < length levels.now }
     ensures running { IsTrue (is_running result) }
-    ensures present { IsTrue (is_present result) ↔ (level_of levels.now l ≡ level) }
+    ensures present { IsTrue (is_present result) ↔ (get_or levels.now l.variable 0 ≡ level) }
 {
     if levels[l.variable() as usize] == level {
         PRESENT
     } else {
         OTHER
     }
+}
+
+// 1 for the mark of a present literal, and 0 for another one.
+fn counted(mark: u8) -> usize
+    ensures { result ≡ (if is_present mark then 1 else 0) }
+{
+    if mark > OTHER { 1 } else { 0 }
 }

@@ -95,7 +95,7 @@ fn bind(watches: &mut Watches, w: u32, first: Lit, second: Lit)
 }
 
 // Looks at the next loose clause in list 0.
-fn look(region: &Region, watches: &mut Watches, values: &mut Values, level: u32) -> Look
+fn settle_next(region: &Region, watches: &mut Watches, values: &mut Values, level: u32) -> Look
     requires settling { IsSettling region.now.held values.old.assignment.variables
         watches.old.watch.items watches.old.links }
     requires marks { HasMarks values.old.assignment.variables values.old.levels.items values.old.reasons.items }
@@ -172,7 +172,7 @@ pub fn settle_loose(
     let mut conflict = None;
     watches.links.turn(1, 0);
     loop {
-        match look(region, watches, values, level) {
+        match settle_next(region, watches, values, level) {
             Look::Done => return conflict,
             Look::On => {}
             Look::Conflict(number) => conflict = Some(number),

@@ -46,12 +46,12 @@ pub record IsTrail (t : Assigned) : Type 0 where
 
 -- No literal has a value; the clauses are these, and there is room for so many words and clauses more.
 pub record IsOpened (variables : ℕ) (clauses : List Lits) (extra_words extra_blocks : ℕ) (t : Assigned) : Type 0 where
-  pub variables : t.variables ≡ variables
-  pub originals : t.originals ≡ length clauses
-  pub clauses : t.clauses ≡ map Some clauses ++ replicate extra_blocks None
-  pub words : t.words ≡ sum_by length clauses + extra_words
-  pub lits : t.lits ≡ []
-  pub present : t.present ≡ 0
+  pub over : t.variables ≡ variables
+  pub many : t.originals ≡ length clauses
+  pub held : t.clauses ≡ map Some clauses ++ replicate extra_blocks None
+  pub room : t.words ≡ sum_by length clauses + extra_words
+  pub none : t.lits ≡ []
+  pub level : t.present ≡ 0
 
 -- the trail's literals up to level n are left, in their order
 pub record IsUpTo (n : ℕ) (before after : Assigned) : Type 0 where

@@ -94,6 +94,16 @@ pub last_split : (lits : Lits) (n : ℕ) (l : Literal) → n + 1 ≡ length lits
 last_split lits n l len read =
     sym (take_all (n + 1) lits (omega arith)) ∙ take_more lits n l (omega arith) ∙ ap (λ x. take n lits ++ x ∷ []) (sym read)
 
+-- the last literal's variable is one of the variables
+pub last_within : (variables : ℕ) (truths : List Bool) (lits : Lits) → AreTruths variables truths lits → (l : Literal) (fewer : Lits) → lits ≡ fewer ++ l ∷ []
+    → l.variable ≤ variables
+last_within variables truths lits are l fewer is = (are.known.literals l (subst (λ t. Has t l) (sym is) ((Has-append fewer (l ∷ []) l).1 (inr (inl refl))))).1
+
+-- and its code has a truth
+pub last_inside : (variables : ℕ) (truths : List Bool) (lits : Lits) → AreTruths variables truths lits → (l : Literal) (fewer : Lits) → lits ≡ fewer ++ l ∷ []
+    → code l < length truths
+last_inside variables truths lits are l fewer is = code_inside variables truths lits are l (last_within variables truths lits are l fewer is)
+
 -- without literals nothing is true
 pub truths_none : (variables n : ℕ) (truths : List Bool) (lits : Lits) → variables ≤ MAX_VARIABLE → truths ≡ replicate n false → n ≡ 2 * variables + 2 → lits ≡ []
     → AreTruths variables truths lits

@@ -79,7 +79,9 @@ module _ (clauses : List (Option Lits)) (variables level : ℕ) (loose loose1 lo
       → Keeps clauses variables level loose loose2 watch t levels reasons watch2 t2 levels2 reasons2
   keeps_on watch t levels reasons watch1 t1 levels1 reasons1 watch2 t2 levels2 reasons2 first second = record {
     grows = grows_on t t1 t2 levels levels1 levels2 reasons reasons1 reasons2 level first.grows second.grows;
-    stages = λ done stages are. second.stages done stages (first.stages done stages are);
+    stages = λ done stages len marked are.
+        second.stages done stages len (first.marked stages len (λ j lt. let a = (are.each j lt).0.within in omega arith) marked)
+        (first.stages done stages len marked are);
     marked = λ stages len within marked.
         second.marked stages len (within_more t t1 levels levels1 reasons reasons1 level stages first.grows within) (first.marked stages len within marked);
   }
@@ -89,7 +91,7 @@ module _ (clauses : List (Option Lits)) (variables level : ℕ) (loose loose1 lo
       → Keeps clauses variables level loose loose watch t levels reasons later t levels reasons
   keeps_moved watch later t levels reasons keeps = record {
     grows = grows_none t levels reasons level;
-    stages = λ done stages are. stages_kept clauses loose watch t done stages are later keeps;
+    stages = λ done stages len marked are. stages_kept clauses loose watch t done stages are later keeps;
     marked = λ stages len within marked. marked;
   }
 
@@ -99,7 +101,7 @@ module _ (clauses : List (Option Lits)) (variables level : ℕ) (loose loose1 lo
       → Keeps clauses variables level loose loose watch t levels reasons watch (t ++ l ∷ []) (set levels l.variable level) (set reasons l.variable number)
   keeps_put watch t levels reasons l number free inside level_size reason_size some reason = record {
     grows = grows_one t levels reasons level number l free (omega arith) (omega arith) some;
-    stages = λ done stages are. stages_more clauses loose watch t done stages are l;
+    stages = λ done stages len marked are. stages_more clauses loose watch t done stages are l;
     marked = λ stages len within marked.
         subst (λ k. AreMarked clauses variables (t ++ l ∷ []) (set levels l.variable k) (set reasons l.variable number) stages) len
         (marked_put clauses variables t levels reasons stages marked l number free inside within (λ _. reason) (λ z. absurd (some z)));

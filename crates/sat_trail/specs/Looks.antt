@@ -18,7 +18,8 @@ AreWithin n stages = (j : ℕ) → j < length stages → (stage_at stages j).len
 pub record Keeps (clauses : List (Option Lits)) (variables level : ℕ) (loose loose_after : List ℕ)
     (watch t : Lits) (levels reasons : List ℕ) (watch_after t_after : Lits) (levels_after reasons_after : List ℕ) : Type 0 where
   pub grows : Grows t t_after levels levels_after reasons reasons_after level
-  pub stages : (done : ℕ) (stages : List Stage) → AreStages clauses loose watch t done stages → AreStages clauses loose_after watch_after t_after done stages
+  pub stages : (done : ℕ) (stages : List Stage) → length stages ≡ level → AreMarked clauses variables t levels reasons stages
+      → AreStages clauses loose watch t done stages → AreStages clauses loose_after watch_after t_after done stages
   pub marked : (stages : List Stage) → length stages ≡ level → AreWithin (length t) stages
       → AreMarked clauses variables t levels reasons stages → AreMarked clauses variables t_after levels_after reasons_after stages
 

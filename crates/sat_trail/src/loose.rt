@@ -1,15 +1,18 @@
 //! Loose clauses: those of which no two literals could be watched so far.
 //!
 //! Each is looked at whole, at the end of `propagate`. Where two of its literals aren't false, it is bound by
-//! them. Where one isn't, that one has to be true; where none is, the clause is in conflict.
+//! them. Where one isn't, that one has to be true, and if another one became false on the present level, the
+//! clause is bound by these two: they lose their values together, or the false one does first. Where none is,
+//! the clause is in conflict. So a clause stays loose only while all of its literals but one are false since
+//! an earlier level.
 
-ghost use Rattle.std.specs.Prelude.{◌≡◌, IfSome, IfNone};
-ghost use Rattle.clause_defs.specs.Literals.{Literal, negation};
+ghost use Rattle.std.specs.Prelude.{◌≡◌, ◌≢◌, ℕ, ◌+◌, ◌^◌, ◌<◌, ◌≤◌, length, get_or, IfSome, IfNone};
+ghost use Rattle.clause_defs.specs.Literals.{Literal, negation, code};
 ghost use Rattle.clause_defs.specs.Clauses.{Has, WithinVariables};
 ghost use Rattle.link_lists.specs.Linked.{list_at};
 ghost use Rattle.sat_trail.specs.Visits.{IsInConflict};
 ghost use Rattle.sat_trail.specs.Looks.{IsResting, HasMarks, Keeps};
-ghost use Rattle.sat_trail.specs.Loosening.{loose_in, IsSettling, AreSettledIn, IsSettlingOutcome};
+ghost use Rattle.sat_trail.specs.Loosening.{loose_in, IsSettling, AreSettledIn, IsSettlingOutcome, AreBound, IsForced};
 
 use crate::levels::{Values, imply};
 use crate::spread::Look;
@@ -35,8 +38,56 @@ fn first_open(lits: &[Lit], values: &Assignment) -> Option<Lit>
     None
 }
 
+// A false literal but `o` that got its value on this level.
+fn late_literal(lits: &[Lit], values: &Values, level: u32, o: Lit) -> Option<Lit>
+    requires within { WithinVariables values.now.assignment.variables lits.now }
+    requires marks { HasMarks values.now.assignment.variables
+        values.now.levels.items values.now.reasons.items }
+    ensures member { IfSome result (λ m. Has lits.now m) }
+    ensures apart { IfSome result (λ m. m ≢ o) }
+    ensures late { IfSome result (λ m. get_or values.now.levels.items m.variable 0 ≡ level) }
+{
+    for &m in lits {
+        if m == o || values.levels[m.variable() as usize] != level {
+            continue;
+        }
+        return Some(m);
+    }
+    None
+}
+
+// Gives the only literal of a clause that isn't false its value, if it has none.
+fn force(values: &mut Values, l: Lit, level: u32, number: u32)
+    requires open { Has values.old.assignment.lits (negation l) → ⊥ }
+    requires within { l.variable ≤ values.old.assignment.variables }
+    requires marks { HasMarks values.old.assignment.variables
+        values.old.levels.items values.old.reasons.items }
+    requires some { number ≢ 0 }
+    ensures variables { values.new.assignment.variables ≡ values.old.assignment.variables }
+    ensures marks { HasMarks values.new.assignment.variables
+        values.new.levels.items values.new.reasons.items }
+    ensures forced { IsForced level l number
+        values.old.assignment.lits values.old.levels.items values.old.reasons.items
+        values.new.assignment.lits values.new.levels.items values.new.reasons.items }
+{
+    if !values.assignment.holds(l) {
+        imply(values, l, level, number);
+    }
+}
+
 // The clause is watched by these literals from now on.
-fn bind(watches: &mut Watches, w: u32, first: Lit, second: Lit) {
+fn bind(watches: &mut Watches, w: u32, first: Lit, second: Lit)
+    requires within { w + 1 < watches.old.links.size }
+    requires few { watches.old.links.size < 2 ^ 32 }
+    requires size { length watches.old.watch.items ≡ watches.old.links.size }
+    requires first_list { code first < length watches.old.links.lists }
+    requires second_list { code second < length watches.old.links.lists }
+    requires out { (k : ℕ) → Has (list_at watches.old.links.lists k) w → ⊥ }
+    requires other_out { (k : ℕ) → Has (list_at watches.old.links.lists k) (w + 1) → ⊥ }
+    ensures size { watches.new.links.size ≡ watches.old.links.size }
+    ensures bound { AreBound w first second watches.old.watch.items watches.old.links.lists
+        watches.new.watch.items watches.new.links.lists }
+{
     watches.watch[w as usize] = first;
     watches.watch[w as usize + 1] = second;
     watches.links.push(first.code(), w);
@@ -44,7 +95,7 @@ fn bind(watches: &mut Watches, w: u32, first: Lit, second: Lit) {
 }
 
 // Looks at the next loose clause in list 0.
-fn look(region: &Region, watches: &mut Watches, values: &mut Values, level: u32) -> Look
+fn settle_next(region: &Region, watches: &mut Watches, values: &mut Values, level: u32) -> Look
     requires settling { IsSettling region.now.held values.old.assignment.variables
         watches.old.watch.items watches.old.links }
     requires marks { HasMarks values.old.assignment.variables values.old.levels.items values.old.reasons.items }
@@ -74,15 +125,24 @@ fn look(region: &Region, watches: &mut Watches, values: &mut Values, level: u32)
         }
     };
     match open_literal(lits, &values.assignment, first) {
-        Some(second) => bind(watches, w, first, second),
+        Some(second) => {
+            bind(watches, w, first, second);
+            Look::On
+        }
         None => {
-            watches.links.push(1, w);
-            if !values.assignment.holds(first) {
-                imply(values, first, level, w / 2 + 1);
+            force(values, first, level, w / 2 + 1);
+            match late_literal(lits, values, level, first) {
+                Some(second) => {
+                    bind(watches, w, first, second);
+                    Look::On
+                }
+                None => {
+                    watches.links.push(1, w);
+                    Look::On
+                }
             }
         }
     }
-    Look::On
 }
 
 /// Looks at all loose clauses once. Answers one in conflict, if it met one.
@@ -112,7 +172,7 @@ pub fn settle_loose(
     let mut conflict = None;
     watches.links.turn(1, 0);
     loop {
-        match look(region, watches, values, level) {
+        match settle_next(region, watches, values, level) {
             Look::Done => return conflict,
             Look::On => {}
             Look::Conflict(number) => conflict = Some(number),

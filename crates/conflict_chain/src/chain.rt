@@ -137,6 +137,14 @@ impl ConflictChain {
         self.antecedents.push_reserved(index);
     }
 
+    /// The greatest variable that a literal may have.
+    pub fn variables(&self) -> u32
+        ensures variables { result ≡ self.now.variables }
+        ensures few { result ≤ MAX_VARIABLE }
+    {
+        self.variables
+    }
+
     /// Whether the literal stands in the running clause.
     pub fn has(&self, l: Lit) -> bool
         requires { l.variable ≤ self.now.variables }

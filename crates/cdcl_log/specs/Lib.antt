@@ -1,0 +1,3 @@
+pub mod Analyses
+pub mod Solving
+pub mod Ends

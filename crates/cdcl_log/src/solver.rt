@@ -1,0 +1,211 @@
+ghost use Rattle.std.specs.Prelude.{◌≡◌, ◌≢◌, ◌⊎◌, ℕ, ◌+◌, ◌<◌, ◌≤◌, ◌↔◌, ◌++◌, [], length, vec_capacity, get_or, true, false, IfOk, IfErr, IfSome, IfNone, IsTrue, Some};
+ghost use Rattle.clause_defs.specs.Literals.{Literal, negation};
+ghost use Rattle.clause_defs.specs.Clauses.{Lits, Has, IsOrdered};
+ghost use Rattle.log_defs.specs.Logs.{Words, IsIndexOf, Extends, HasDerived, clause_of_log};
+ghost use Rattle.trail_defs.specs.Assignments.{IsConflict, IsFree};
+ghost use Rattle.trail_defs.specs.Trails.{clause_at, HasSameClauses};
+ghost use Rattle.cdcl_log.specs.Analyses.{Knows, IsLesson, IsAsserting};
+ghost use Rattle.cdcl_log.specs.Solving.{IsSolving, IsSettledBelow};
+ghost use Rattle.cdcl_log.specs.Ends.{SolveEnds, IsTotal, IsPoint};
+
+use crate::analysis::{begin, bump, second_level, to_few, to_one};
+use crate::end::CdclEnd;
+use crate::restarts::Restarts;
+use conflict_chain::ConflictChain;
+use decision_order::DecisionOrder;
+use pch_base::{Lit, NoMemory};
+use proof_log::{Log, LogEnd};
+use sat_trail::Trail;
+use std::alloc::Global;
+use std::marker::Model;
+
+/// A search over the clauses of a log's formula.
+///
+/// Contracts see it as the record `Solving`: the words that it may derive, its trail, and the index in the
+/// log of each of the trail's clauses.
+#[derive(Debug, Drop)]
+pub struct Solver {
+    limit: u32,
+    trail: Trail,
+    // The index in the log of each clause of the trail, by its number.
+    indices: Vec<u32>,
+    chain: ConflictChain,
+    // The clause that the last conflict taught.
+    lits: Vec<Lit>,
+    order: DecisionOrder,
+    restarts: Restarts,
+}
+
+impl Model for Solver {
+    ghost use Rattle.std.specs.Prelude.{vec_capacity};
+    ghost use Rattle.cdcl_log.specs.Solving.{Solving};
+
+    ghost Value = { Solving };
+
+    ghost view = { λ s. record { limit = s.limit; trail = s.trail; indices = s.indices.items } };
+
+    ghost invariant = { λ s. (s.chain.variables ≡ s.trail.variables) × (s.order ≡ s.trail.variables + 1)
+        × (s.trail.variables ≤ vec_capacity s.lits) };
+}
+
+impl Solver {
+    /// A search over the clauses of a log's formula that may derive so many words. Takes all memory of the
+    /// search.
+    pub fn open(alloc: Global, log: &Log, limit: u32) -> Result<Solver, NoMemory>
+        requires { limit ≤ log.now.budget }
+        ensures limit { IfOk result (λ s. s.limit ≡ limit) }
+        ensures solving { log.now.derived ≡ [] → IfOk result (λ s. IsSolving log.now s) }
+    {
+        let set = log.originals();
+        let variables = set.variables();
+        let trail = Trail::open(alloc, set, limit, limit)?;
+        Ok(Solver {
+            limit,
+            trail,
+            indices: own_indices(alloc, set.len(), limit)?,
+            chain: ConflictChain::new(alloc, variables)?,
+            lits: Vec::with_capacity(alloc, variables as usize)?,
+            order: DecisionOrder::new(alloc, variables)?,
+            restarts: Restarts::new(),
+        })
+    }
+
+    /// Searches until each variable has a value, the empty clause is derived, or the words are spent. The
+    /// log is the one with which the search was opened, and has nothing derived. Takes no memory.
+    pub fn solve(&mut self, log: &mut Log) -> CdclEnd
+        requires solving { IsSolving log.old self.old }
+        requires nothing { log.old.derived ≡ [] }
+        ensures log { Extends log.old log.new }
+        ensures limit { Words log.new.derived ≤ self.old.limit }
+        ensures end { SolveEnds log.new self.new result }
+        ensures same_limit { self.new.limit ≡ self.old.limit }
+    {
+        while let Some(number) = self.descend() {
+            if let Some(end) = self.learn_from(number, log) {
+                return end;
+            }
+            if self.restarts.is_due() {
+                self.trail.back_to(0);
+            }
+        }
+        CdclEnd::Point
+    }
+
+    /// The value of a variable. `solve` answered [`CdclEnd::Point`].
+    pub fn value(&self, v: u32) -> bool
+        requires point { IsTotal self.now.trail }
+        requires low { 1 ≤ v }
+        requires high { v ≤ self.now.trail.variables }
+        ensures { Has self.now.trail.lits (record { variable = v; positive = result }) }
+    {
+        match self.trail.value(v) {
+            Some(value) => value,
+            None => false,
+        }
+    }
+
+    // Decides variables and draws the consequences, until each has a value or a clause is in conflict.
+    fn descend(&mut self) -> Option<u32>
+        requires settled { IsSettledBelow self.old.trail }
+        ensures settled { IsSettledBelow self.new.trail }
+        ensures same { HasSameClauses self.old.trail self.new.trail }
+        ensures limit { self.new.limit ≡ self.old.limit }
+        ensures indices { self.new.indices ≡ self.old.indices }
+        ensures conflict { IfSome result (λ k. (c : Lits)
+            × (clause_at self.new.trail.clauses k ≡ Some c) × IsConflict self.new.trail.lits c) }
+    {
+        loop {
+            if let Some(number) = self.trail.propagate() {
+                return Some(number);
+            }
+            let l = self.choose()?;
+            self.trail.assign(l);
+        }
+    }
+
+    // A literal of the variable without a value that has the greatest activity, if one is left.
+    fn choose(&self) -> Option<Lit>
+        ensures free { IfSome result (λ l. IsFree self.now.trail.lits l × (l.variable ≤ self.now.trail.variables)) }
+        ensures none { IfNone result (IsTotal self.now.trail) }
+    {
+        let mut best = None;
+        let mut most = 0;
+        for v in 1..self.chain.variables() + 1 {
+            if self.trail.value(v).is_some() {
+                continue;
+            }
+            let activity = self.order.activity(v);
+            if best.is_none() || activity > most {
+                best = Some(v);
+                most = activity;
+            }
+        }
+        let v = best?;
+        Some(Lit::from_parts(v, self.order.phase(v)))
+    }
+
+    // Derives what a clause in conflict teaches, and goes back to where that clause asks for a value.
+    fn learn_from(&mut self, number: u32, log: &mut Log) -> Option<CdclEnd> {
+        let present = self.trail.present();
+        let level = present.max(1);
+        begin(&self.trail, &self.indices, log, number, level, &mut self.chain);
+        let from = if present > 0 {
+            to_one(&self.trail, &self.indices, log, &mut self.chain)
+        } else {
+            self.trail.len()
+        };
+        to_few(&self.trail, &self.indices, log, from, level, &mut self.chain);
+        self.chain.list(&mut self.lits);
+        bump(log, self.chain.antecedents(), &mut self.order);
+        match self.derive(log) {
+            Ok(index) => {
+                if self.lits.is_empty() {
+                    return Some(CdclEnd::Empty { index });
+                }
+                self.back_to(second_level(&self.trail, &self.lits));
+                self.put(index);
+                None
+            }
+            Err(end) => Some(end),
+        }
+    }
+
+    // Derives the clause that the last conflict taught, if its words are within the limit.
+    fn derive(&mut self, log: &mut Log) -> Result<u32, CdclEnd> {
+        let need = 3 + self.lits.len() as u32 + self.chain.antecedents().len() as u32;
+        let used = log.used();
+        if need > self.limit - used {
+            return Err(CdclEnd::Spent { used, need });
+        }
+        match log.derive(&self.lits, self.chain.antecedents()) {
+            Ok(index) => Ok(index),
+            Err(LogEnd::Kept { index }) => Ok(index),
+            Err(LogEnd::Spent { used, need }) => Err(CdclEnd::Spent { used, need }),
+        }
+    }
+
+    // Goes back to a level, and remembers the values that are taken away.
+    fn back_to(&mut self, level: u32) {
+        for &l in self.trail.literals() {
+            self.order.remember(l);
+        }
+        self.trail.back_to(level);
+    }
+
+    // Puts the clause that the last conflict taught into the trail, under its index in the log.
+    fn put(&mut self, index: u32) {
+        if let Ok(number) = self.trail.learn(&self.lits) {
+            self.indices[number as usize] = index;
+        }
+    }
+}
+
+// The numbers of the originals as their indices, and room for so many more.
+fn own_indices(alloc: Global, originals: u32, more: u32) -> Result<Vec<u32>, NoMemory> {
+    let mut indices = Vec::new(alloc);
+    indices.resize(originals as usize + more as usize + 1, 0)?;
+    for k in 0..originals {
+        indices[k as usize + 1] = k + 1;
+    }
+    Ok(indices)
+}

@@ -3,13 +3,15 @@ use Rattle.std.proofs.Common.{◌≡◌, ◌≢◌, ℕ, zero, suc, ◌+◌, ◌
 use Rattle.std.proofs.lemmas.Bool.{cases_Bool}
 use Rattle.std.proofs.lemmas.Bool.Decides.{nat_tests}
 use Rattle.std.proofs.lemmas.List.{length-replicate, get_or_default}
-use Rattle.clause_defs.specs.Literals.{Literal, code, IsLiteral}
-use Rattle.clause_defs.specs.Clauses.{Lits, Has}
+use Rattle.clause_defs.specs.Literals.{Literal, code, negation, IsLiteral}
+use Rattle.clause_defs.specs.Clauses.{Lits, Has, IsOrdered}
 use Rattle.clause_defs.specs.declared.verdict.TheConstants.{MAX_VARIABLE}
 use Rattle.clause_laws.proofs.LiteralLemmas.{literal_cases}
 use Rattle.pch_base.specs.Lits.{literal_of}
 use Rattle.chain_check.specs.Marks.{with_literal, literals_where}
-use Rattle.chain_check.proofs.MarkLemmas.{one_if, Has-literals_where, Has-set_passing, Has-set_failing, length-literals_set, literals_where-none, length-literals_le}
+use Rattle.chain_check.proofs.MarkLemmas.{one_if, Has-literals_where, Has-set_passing, Has-set_failing, length-literals_set, literals_where-none, length-literals_le, IsOrdered-literals_where}
+use Rattle.trail_defs.specs.Assignments.{AreApart}
+use Rattle.assignment.proofs.ApartLemmas.{same_variable, few_literals}
 use Rattle.conflict_chain.specs.Kept.{is_running, is_present, IsKept}
 
 -- there is a mark for each literal of the variables, behind the first two
@@ -206,3 +208,49 @@ marks_set test marks variables place n l ls within size at same x =
     subst (λ p. Has (literals_where test 0 (set marks p n)) x ↔ ((Has ls x × (x ≢ l)) ⊎ (IsTrue (test n) × (x ≡ l)))) (sym at)
     (subst (λ (ks : Lits). Has (literals_where test 0 (set marks (code l) n)) x ↔ ((Has ks x × (x ≢ l)) ⊎ (IsTrue (test n) × (x ≡ l)))) same
     (Has-set test marks l n (omega arith) x))
+
+-- ---- how many literals there are
+
+-- literals in their order of which none stands with its negation have different variables
+apart_ordered : (c : Lits) → IsOrdered c → ((l : Literal) → Has c l → Has c (negation l) → ⊥) → AreApart c
+apart_ordered [] ordered consistent = tt
+apart_ordered (l ∷ ls) ordered consistent = (
+  λ m h same. elim (same_variable m l same) [
+    | inl e ↦ let less = ordered.0 m h in let equal = ap code e in absurd (omega arith)
+    | inr e ↦ consistent l (inl refl) (inr (subst (Has ls) e h))
+  ],
+  apart_ordered ls ordered.1 (λ m h k. consistent m (inr h) (inr k)),
+)
+
+-- a literal of the running clause is one of the variables
+literal_marked : (variables : ℕ) (marks : List ℕ) (count room : ℕ) → IsKept variables marks count room → (l : Literal)
+    → Has (literals_where is_running 0 marks) l → IsLiteral l × (l.variable ≤ variables)
+literal_marked variables marks count room kept l h =
+    let own = (Has-literals_where is_running marks l).0 h in
+    let marked : is_running (get_or marks (code l) 0) ≡ true = own.1 in
+    let not_first : code l ≢ 0 = λ e. (let f : is_running 0 ≡ true = sym (ap is_running (ap (λ k. get_or marks k 0) e ∙ kept.no_literal)) ∙ marked in cc) in
+    let not_second : code l ≢ 1 = λ e. (let f : is_running 0 ≡ true = sym (ap is_running (ap (λ k. get_or marks k 0) e ∙ kept.no_literal_either)) ∙ marked in cc) in
+    let size = kept.size in
+    let few = kept.few in
+    let lt = own.0 in
+    let bounds = code_bounds l in
+    let low = bounds.0 in
+    let high = bounds.1 in
+    ((omega arith, omega arith), omega arith)
+  where
+    code_bounds : (l : Literal) → (2 * l.variable ≤ code l) × (code l ≤ 2 * l.variable + 1)
+    code_bounds l = at_sign l.variable l.positive
+      where
+        at_sign : (v : ℕ) (b : Bool) → (2 * v ≤ 2 * v + (if b then 1 else 0)) × (2 * v + (if b then 1 else 0) ≤ 2 * v + 1)
+        at_sign v true = (omega arith, omega arith)
+        at_sign v false = (omega arith, omega arith)
+
+-- no more literals than variables
+pub literals_few : (variables : ℕ) (marks : List ℕ) (count room : ℕ) → IsKept variables marks count room
+    → ((l : Literal) → Has (literals_where is_running 0 marks) l → Has (literals_where is_running 0 marks) (negation l) → ⊥)
+    → length (literals_where is_running 0 marks) ≤ variables
+literals_few variables marks count room kept consistent =
+    few_literals variables (literals_where is_running 0 marks) (record {
+      literals = λ l h. literal_marked variables marks count room kept l h;
+      apart = apart_ordered (literals_where is_running 0 marks) (IsOrdered-literals_where is_running 0 marks) consistent;
+    })

@@ -177,11 +177,13 @@ impl ConflictChain {
     }
 
     /// Lists the literals of the running clause in their order, in a list with room for as many as there
-    /// are variables.
+    /// are variables. No literal stands in it with its negation.
     pub fn list(&self, lits: &mut Vec<Lit>)
-        requires few { length self.now.lits ≤ vec_capacity lits.old }
+        requires consistent { (l : Literal) → Has self.now.lits l → Has self.now.lits (negation l) → ⊥ }
+        requires room { self.now.variables ≤ vec_capacity lits.old }
         ensures lits { lits.new.items ≡ self.now.lits }
         ensures ordered { IsOrdered lits.new.items }
+        ensures few { length lits.new.items ≤ self.now.variables }
         ensures room { vec_capacity lits.new ≡ vec_capacity lits.old }
     {
         lits.clear();

@@ -1,9 +1,9 @@
 -- What is left at the end of the walk.
-use Rattle.std.proofs.Common.{◌≡◌, ◌≢◌, ℕ, zero, suc, ◌+◌, ◌<◌, ◌≤◌, ◌↔◌, ◌⊎◌, inl, inr, List, [], ◌∷◌, length, map, take, get_or, refl, sym, ◌∙◌, ap, subst, arith}
+use Rattle.std.proofs.Common.{◌≡◌, ◌≢◌, ℕ, zero, suc, ◌+◌, ◌<◌, ◌≤◌, ◌↔◌, ◌⊎◌, inl, inr, List, [], ◌∷◌, length, map, take, get_or, refl, sym, subst, arith}
 use Rattle.std.proofs.lemmas.Bool.{cases_lt}
 use Rattle.clause_defs.specs.Literals.{Literal, negation}
 use Rattle.clause_defs.specs.Clauses.{Lits, Has, IsOrdered}
-use Rattle.clause_laws.proofs.LiteralLemmas.{literal_cases, negation-negation}
+use Rattle.clause_laws.proofs.LiteralLemmas.{negation-negation}
 use Rattle.clause_defs.specs.Resolution.{Resolves}
 use Rattle.chain_check.proofs.ClauseLists.{Has-take_more}
 use Rattle.log_defs.specs.Logs.{LogValue, clause_of_log}
@@ -79,16 +79,18 @@ module _ (log : LogValue) (present : ℕ) (trail : Lits) (levels reasons indices
   asserting_of r p lits chain split one same lits_are =
       let some = some_member p (omega arith) in
       let u = some.0 in
-      let here = (same u).1 some.1 in
-      (u, record {
-        there = subst (λ (ls : Lits). Has ls u) (sym lits_are) (split.running u here);
-        own = (split.by_level u (split.running u here)).0 here;
-        others = λ x h other.
-            let was = subst (λ (ls : Lits). Has ls x) lits_are h in
-            let top : level_in levels x ≤ present = reasoned.top (negation x) (chain.all_false x was) in
-            let differs : level_in levels x ≢ present = λ e. other (alone p one x u ((same x).0 ((split.by_level x was).1 e)) some.1) in
-            omega arith;
-      })
+      let here = (same u).1 some.1 in (
+        u,
+        record {
+          there = subst (λ (ls : Lits). Has ls u) (sym lits_are) (split.running u here);
+          own = (split.by_level u (split.running u here)).0 here;
+          others = λ x h other.
+              let was = subst (λ (ls : Lits). Has ls x) lits_are h in
+              let top : level_in levels x ≤ present = reasoned.top (negation x) (chain.all_false x was) in
+              let differs : level_in levels x ≢ present = λ e. other (alone p one x u ((same x).0 ((split.by_level x was).1 e)) some.1) in
+              omega arith;
+        },
+      )
 
 -- on level 0 nothing is left
 pub nothing_left : (log : LogValue) (trail : Lits) (levels reasons indices : List ℕ) → IsReasoned log 0 trail levels reasons indices

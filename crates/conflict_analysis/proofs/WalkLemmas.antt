@@ -1,15 +1,15 @@
 -- One place further down the trail.
-use Rattle.std.proofs.Common.{◌≡◌, ◌≢◌, ℕ, zero, suc, ◌+◌, ◌<◌, ◌≤◌, ◌↔◌, ◌⊎◌, inl, inr, List, [], ◌∷◌, length, take, get_or, refl, sym, ◌∙◌, ap, subst, arith}
+use Rattle.std.proofs.Common.{◌≡◌, ◌≢◌, ℕ, zero, suc, ◌+◌, ◌<◌, ◌≤◌, inl, inr, List, [], ◌∷◌, length, take, get_or, refl, sym, ◌∙◌, ap, subst, arith}
 use Rattle.std.proofs.lemmas.List.{get_or_default}
 use Rattle.clause_defs.specs.Literals.{Literal, negation, code}
 use Rattle.clause_defs.specs.Clauses.{Lits, Has, IsOrdered, WithinVariables}
-use Rattle.clause_laws.proofs.LiteralLemmas.{literal_cases, negation-negation}
+use Rattle.clause_laws.proofs.LiteralLemmas.{literal_cases}
 use Rattle.chain_check.proofs.ClauseLists.{Has-take, Has-take_more, negation_swap}
 use Rattle.log_defs.specs.Logs.{LogValue}
 use Rattle.trail_defs.specs.Assignments.{IsAt, Implies, IsAssignmentOf}
 use Rattle.conflict_chain.specs.Conflicts.{Chained, IsChainAt, IsSplit, AreOthersOf}
 use Rattle.conflict_chain.proofs.StepLemmas.{at_has}
-use Rattle.conflict_analysis.specs.Analyses.{level_in, reason_in, IsReasonAt, IsReasoned, HasNoRootFrom}
+use Rattle.conflict_analysis.specs.Analyses.{level_in, reason_in, IsReasonAt, IsReasoned}
 use Rattle.conflict_analysis.specs.Walks.{IsToOne, IsToFew}
 
 -- a list with a member isn't empty

@@ -69,7 +69,9 @@ impl DecisionOrder {
     {
         let place = variable as usize;
         let part = self.step / (u64::from(size) + 1);
-        let more = self.step.saturating_add(part.saturating_mul(u64::from(rank)));
+        let more = self
+            .step
+            .saturating_add(part.saturating_mul(u64::from(rank)));
         self.activities[place] = self.activities[place].saturating_add(more);
     }
 

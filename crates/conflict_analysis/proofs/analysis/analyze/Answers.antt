@@ -1,4 +1,4 @@
-use Rattle.std.proofs.Common.{◌∙◌, arith}
+use Rattle.std.proofs.Common.{arith}
 use Rattle.conflict_analysis.proofs.EndLemmas.{roots_before, apart_running, lesson_of, asserting_of}
 use Rattle.conflict_analysis.proofs.analysis.analyze.Goals as goal
 

@@ -1,4 +1,4 @@
-use Rattle.std.proofs.Common.{◌≡◌, ◌≢◌, ◌+◌, ◌≤◌, ◌⊎◌, get_or, take, ap, sym, ◌∙◌, subst, arith}
+use Rattle.std.proofs.Common.{◌≢◌, ◌+◌, ◌≤◌, get_or, take, ap, sym, ◌∙◌, subst, arith}
 use Rattle.clause_defs.specs.Literals.{Literal}
 use Rattle.clause_defs.specs.Clauses.{Has}
 use Rattle.chain_check.proofs.ClauseLists.{Has-get}
@@ -44,7 +44,7 @@ loop-l-preserved c =
     let same = ap (λ v. get_or c.args.levels.now v 0) c.variable.ensures.variable in
     let greater = c.if-level-second.false in
     let most : (x : Literal) → Has (take (c.loop-l.l-index + 1) c.args.lits.now) x → level_in c.args.levels.now x ≢ c.args.present
-        → level_in c.args.levels.now x ≤ level_in c.args.levels.now c.l-item.result =
+    → level_in c.args.levels.now x ≤ level_in c.args.levels.now c.l-item.result =
     most_more c.args.levels.now c.args.present c.args.lits.now c.loop-l.l-index c.l-item.result c.loop-l-test.true c.l-item.is c.loop-l.second
     (level_in c.args.levels.now c.l-item.result) (omega arith) (λ differs. omega arith) c.loop-l.invariant.most in
     let reached =

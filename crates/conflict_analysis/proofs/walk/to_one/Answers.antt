@@ -1,11 +1,10 @@
-use Rattle.std.proofs.Common.{◌≡◌, ℕ, ◌+◌, ◌-◌, ◌<◌, length, ap, sym, ◌∙◌, subst, arith}
-use Rattle.clause_defs.specs.Literals.{Literal, negation}
+use Rattle.std.proofs.Common.{◌+◌, ◌-◌, ◌<◌, length, ap, sym, ◌∙◌, subst, arith}
+use Rattle.clause_defs.specs.Literals.{Literal}
 use Rattle.clause_defs.specs.Clauses.{Has}
 use Rattle.log_defs.specs.Logs.{clause_of_log}
 use Rattle.trail_defs.specs.Assignments.{IsAt}
 use Rattle.assignment.proofs.ApartLemmas.{few_literals}
 use Rattle.conflict_chain.proofs.StepLemmas.{at_has}
-use Rattle.conflict_analysis.specs.Analyses.{IsReasonAt}
 use Rattle.conflict_analysis.specs.Walks.{IsToOne}
 use Rattle.conflict_analysis.proofs.WalkLemmas.{to_one_positive, to_one_pass, to_one_more, one_reason, reason_within}
 use Rattle.conflict_analysis.proofs.walk.to_one.Goals as goal

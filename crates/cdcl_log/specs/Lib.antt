@@ -1,3 +1,0 @@
-pub mod Analyses
-pub mod Solving
-pub mod Ends

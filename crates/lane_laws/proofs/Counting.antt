@@ -194,8 +194,7 @@ IsOfTurn h lane turn p = (e : EntryValue) × (slice_get h p ≡ Some e) × (e.la
 one-turn : (h : List EntryValue) (lane turn other_lane other_turn p : ℕ)
     → IsOfTurn h lane turn p → IsOfTurn h other_lane other_turn p → (lane ≡ other_lane) × (turn ≡ other_turn)
 one-turn h lane turn other_lane other_turn p a b =
-    let same : a.0 ≡ b.0 = same_Some a.0 b.0 (sym a.1 ∙ b.1) in
-    (
+    let same : a.0 ≡ b.0 = same_Some a.0 b.0 (sym a.1 ∙ b.1) in (
       sym a.2 ∙ ap (λ (e : EntryValue). e.lane) same ∙ b.2,
       sym a.3 ∙ ap (λ (e : EntryValue). e.turn) same ∙ b.3,
     )

@@ -140,8 +140,7 @@ accepted s files h rs end = record {
         reply = told.reply;
       });
   replies = λ lane turn number kind found.
-      let m = (made-at s files h rs lane turn number kind end found).2 in
-      (
+      let m = (made-at s files h rs lane turn number kind end found).2 in (
         line_of m.entry,
         m.numbered,
         slice_get-map line_of h (number - 1) ∙ ap (option_map line_of) m.stands,

@@ -1,8 +1,7 @@
-use Rattle.std.proofs.Common.{◌≡◌, ◌-◌, ◌+◌, ◌<◌, length, vec_len, get_or, sym, ap, ◌∙◌, subst, refl, arith, length-set}
-use Rattle.std.proofs.lemmas.List.{get_or_read}
+use Rattle.std.proofs.Common.{◌<◌, length, ap, subst, arith, length-set}
 use Rattle.link_lists.specs.Linked.{Linked}
 use Rattle.link_lists.specs.Chains.{IsLinkedBy}
-use Rattle.link_lists.proofs.LinkLemmas.{pushed}
+use Rattle.link_lists.proofs.CallLemmas.{push_gives}
 use Rattle.link_lists.proofs.links.Links.push.Goals as goal
 
 -- the lists are linked with it
@@ -10,15 +9,10 @@ pub invariant_of-self : goal.invariant_of-self
 invariant_of-self c =
     let next = c.self.inside.next.items in
     let heads = c.self.inside.heads.items in
-    let lists = c.args.self.now.lists in
-    let seen = ap (λ (v : Linked). v.lists) c.self.view_is in
-    let linked = subst (IsLinkedBy next heads) seen c.self.invariant.0 in
-    let many : length lists ≡ length heads = linked.count in
-    let lt : c.args.list < length heads = let a = c.requires.list in omega arith in
     let size_is = ap (λ (v : Linked). v.size) c.self.view_is in
     let inside : c.args.w < length next = let a = c.requires.within in omega arith in
-    let follows = get_or_read heads c.args.list c.index.result.now lt c.index.ensures 0 in
-    let gives = pushed next heads lists linked c.args.list c.args.w c.index.result.now lt inside c.requires.out follows in
+    let linked = subst (λ (v : Linked). IsLinkedBy next heads v.lists) c.self.view_is c.self.invariant.0 in
+    let gives = push_gives next heads c.args.self.now.lists linked c.args.list c.args.w c.index.result.now c.requires.list inside c.requires.out c.index.ensures in
     let long = length-set next c.args.w c.index.result.now in
     let bits = c.self.invariant.1 in
     (gives.linked, omega arith)
@@ -28,13 +22,8 @@ pub returns-clause-lists : goal.returns-clause-lists
 returns-clause-lists c =
     let next = c.self.inside.next.items in
     let heads = c.self.inside.heads.items in
-    let lists = c.args.self.now.lists in
-    let seen = ap (λ (v : Linked). v.lists) c.self.view_is in
-    let linked = subst (IsLinkedBy next heads) seen c.self.invariant.0 in
-    let many : length lists ≡ length heads = linked.count in
-    let lt : c.args.list < length heads = let a = c.requires.list in omega arith in
     let size_is = ap (λ (v : Linked). v.size) c.self.view_is in
     let inside : c.args.w < length next = let a = c.requires.within in omega arith in
-    let follows = get_or_read heads c.args.list c.index.result.now lt c.index.ensures 0 in
-    let gives = pushed next heads lists linked c.args.list c.args.w c.index.result.now lt inside c.requires.out follows in
+    let linked = subst (λ (v : Linked). IsLinkedBy next heads v.lists) c.self.view_is c.self.invariant.0 in
+    let gives = push_gives next heads c.args.self.now.lists linked c.args.list c.args.w c.index.result.now c.requires.list inside c.requires.out c.index.ensures in
     gives.are

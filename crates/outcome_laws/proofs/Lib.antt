@@ -4,6 +4,5 @@ pub mod Deciding
 pub mod Delivering
 pub mod Ending
 pub mod Placing
-pub mod Producing
 pub mod Specifying
 pub mod Verifying

@@ -4,5 +4,4 @@ pub mod check;
 pub mod cnf;
 pub mod compact;
 pub mod placing;
-pub mod producing;
 pub mod verifying;

@@ -4,7 +4,7 @@ use Rattle.std.proofs.lemmas.Bool.{cases_eq, cases_lt}
 use Rattle.std.proofs.lemmas.List.{drop_at, take_at, length_push, get_or_push, get_or_append_left, map-set, length-map, length-replicate, get_or_past}
 use Rattle.std.proofs.lemmas.List.Sums.{sum_by-set, get_or-le-sum_by}
 use Rattle.clause_defs.specs.Clauses.{Lits}
-use Rattle.pch_region.specs.Blocks.{held_at, IsLive, size, one, words_of, blocks_of}
+use Rattle.pch_region.specs.Blocks.{held_at, IsLive, size, one, words_of, blocks_of, AreAllNames}
 use Rattle.pch_region.specs.Places.{place_of, block_in, blocks_in, EndsBy, EachEndsBy, listed}
 use Rattle.pch_region.specs.Kept.{AreNamed, AreLaid}
 use Rattle.pch_region.specs.declared.places.Place.{Place}
@@ -307,15 +307,16 @@ pub copies_length : {X : Type 0} (xs : List X) (n : ℕ) (x : X) → xs ≡ repl
 copies_length xs n x e = ap length e ∙ length-replicate n x
 
 -- all names are unused
-pub named_new : (names : List ℕ) (words blocks : ℕ) → blocks < 2 ^ 32 → length names ≡ blocks → ((k : ℕ) → k < blocks → get_or names k 0 ≡ k)
+pub named_new : (names : List ℕ) (words blocks : ℕ) → blocks < 2 ^ 32 → AreAllNames blocks names
     → (held : List (Option Lits)) → held ≡ replicate blocks None → AreNamed held names words 0
-named_new names words blocks few many is held e =
+named_new names words blocks few all held e =
     let len = copies_length held blocks None e in
+    let many = all.many in
     record {
       live_is = ap words_of e ∙ sum-replicate size blocks None refl;
       fits = omega arith;
-      dead = λ k lt. (let a = is k (omega arith) in omega arith, ap (λ h. held_at h (get_or names k 0)) e ∙ get_or-copies blocks None (get_or names k 0));
-      once = λ j k lt below same. let a = is j (omega arith) in let b = is k (omega arith) in absurd (omega arith);
+      dead = λ k lt. (let a = all.falling k (omega arith) in omega arith, ap (λ h. held_at h (get_or names k 0)) e ∙ get_or-copies blocks None (get_or names k 0));
+      once = λ j k lt below same. let a = all.falling j (omega arith) in let b = all.falling k (omega arith) in absurd (omega arith);
       counted = let a : blocks_of held ≡ 0 = ap blocks_of e ∙ sum-replicate one blocks None refl in omega arith;
       few = omega arith;
     }

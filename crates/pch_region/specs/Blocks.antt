@@ -1,11 +1,22 @@
 -- The live blocks of a region: a finite map from names to lists of literals.
-use Rattle.std.specs.Prelude.{◌≢◌, ℕ, List, get_or, length, sum_by, Option, Some, None}
+use Rattle.std.specs.Prelude.{◌≡◌, ◌≢◌, ℕ, ◌-◌, ◌<◌, List, length, get_or, sum_by, Option, Some, None}
 use Rattle.clause_defs.specs.Clauses.{Lits}
 
--- for each name the literals of its block, if it is live, and how many words fit
+-- for each name the literals of its block, if it is live; the names of no live block, of which the last is given
+-- next; and how many words fit
 pub record Blocks : Type 0 where
   pub held : List (Option Lits)
+  pub unused : List ℕ
   pub words : ℕ
+
+-- the name that is given next
+abbrev pub next_name : List ℕ → ℕ
+next_name unused = get_or unused (length unused - 1) 0
+
+-- all names, the least one last
+pub record AreAllNames (blocks : ℕ) (unused : List ℕ) : Type 0 where
+  pub many : length unused ≡ blocks
+  pub falling : (k : ℕ) → k < blocks → get_or unused k 0 ≡ blocks - 1 - k
 
 -- the block with a name, if it is live
 abbrev pub held_at : List (Option Lits) → ℕ → Option Lits

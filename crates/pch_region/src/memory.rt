@@ -1,4 +1,5 @@
-ghost use Rattle.std.specs.Prelude.{◌≡◌, ℕ, ◌<◌, ◌≤◌, length, get_or, replicate, vec_capacity, None, IfOk};
+ghost use Rattle.std.specs.Prelude.{◌≡◌, ◌≤◌, replicate, vec_capacity, None, IfOk};
+ghost use Rattle.pch_region.specs.Blocks.{AreAllNames};
 
 use crate::places::Place;
 use pch_base::NoMemory;
@@ -15,15 +16,14 @@ pub fn empty_slots(alloc: Global, blocks: u32) -> Result<Vec<Option<Place>>, NoM
     Ok(slots)
 }
 
-/// The names below `blocks`, with room for as many.
+/// The names below `blocks`, the least one last, with room for as many.
 pub fn all_names(alloc: Global, blocks: u32) -> Result<Vec<u32>, NoMemory>
-    ensures many { IfOk result (λ v. length v.items ≡ blocks) }
-    ensures names { IfOk result (λ v. (k : ℕ) → k < blocks → get_or v.items k 0 ≡ k) }
+    ensures names { IfOk result (λ v. AreAllNames blocks v.items) }
     ensures room { IfOk result (λ v. blocks ≤ vec_capacity v) }
 {
     let mut names = Vec::with_capacity(alloc, blocks as usize)?;
     for k in 0..blocks {
-        names.push_reserved(k);
+        names.push_reserved(blocks - 1 - k);
     }
     Ok(names)
 }

@@ -1,5 +1,5 @@
-ghost use Rattle.std.specs.Prelude.{◌≡◌, ◌≢◌, ◌⊎◌, ◌↔◌, ◌+◌, ◌<◌, ◌≤◌, length, set, replicate, None, Some, IfOk, IfErr, IsTrue};
-ghost use Rattle.pch_region.specs.Blocks.{held_at, IsLive, words_of, blocks_of};
+ghost use Rattle.std.specs.Prelude.{◌≡◌, ◌⊎◌, ◌↔◌, ◌+◌, ◌-◌, ◌<◌, ◌≤◌, ◌++◌, [], ◌∷◌, length, set, take, replicate, None, Some, IfOk, IfErr, IsTrue};
+ghost use Rattle.pch_region.specs.Blocks.{held_at, IsLive, words_of, blocks_of, next_name, AreAllNames};
 
 use crate::block::{Block, Full};
 use crate::closing::make_room;
@@ -37,6 +37,7 @@ impl Model for Region {
 
     ghost view = { λ r. record {
       held = blocks_in r.run.items r.slots.items;
+      unused = r.unused.items;
       words = r.words;
     } };
 
@@ -52,6 +53,7 @@ impl Region {
     /// A region without blocks, with room for so many words and blocks. Takes all its memory.
     pub fn new(alloc: Global, words: u32, blocks: u32) -> Result<Region, NoMemory>
         ensures held { IfOk result (λ r. r.held ≡ replicate blocks None) }
+        ensures unused { IfOk result (λ r. AreAllNames blocks r.unused) }
         ensures words { IfOk result (λ r. r.words ≡ words) }
     {
         Ok(Region {
@@ -99,6 +101,9 @@ impl Region {
     /// together at most as many as fit, and so are the blocks. All other blocks stay as they are.
     pub fn put(&mut self, lits: &[Lit]) -> Result<Block, Full>
         ensures fresh { IfOk result (λ b. held_at self.old.held b.name ≡ None) }
+        ensures name { IfOk result (λ b. b.name ≡ next_name self.old.unused) }
+        ensures unused { IfOk result (λ _.
+            self.new.unused ≡ take (length self.old.unused - 1) self.old.unused) }
         ensures in_range { IfOk result (λ b. b.name < length self.old.held) }
         ensures put { IfOk result (λ b. self.new.held ≡ set self.old.held b.name (Some lits.now)) }
         ensures words { self.new.words ≡ self.old.words }
@@ -109,7 +114,7 @@ impl Region {
             ⊎ (length self.old.held ≤ blocks_of self.old.held)) }
         ensures live_words { IfErr result (λ f. f.live_words ≡ words_of self.old.held) }
         ensures live_blocks { IfErr result (λ f. f.live_blocks ≡ blocks_of self.old.held) }
-        ensures same { IfErr result (λ _. self.new.held ≡ self.old.held) }
+        ensures same { IfErr result (λ _. self.new ≡ self.old) }
     {
         if lits.len() > (self.words - self.live) as usize || self.unused.is_empty() {
             return Err(Full {
@@ -137,6 +142,7 @@ impl Region {
     pub fn free(&mut self, b: Block)
         requires { IsLive self.old.held b.name }
         ensures held { self.new.held ≡ set self.old.held b.name None }
+        ensures unused { self.new.unused ≡ self.old.unused ++ b.name ∷ [] }
         ensures words { self.new.words ≡ self.old.words }
     {
         let words = self.get(b).len() as u32;

@@ -23,6 +23,7 @@ pub use items::Items;
 pub use print::print_transcript;
 pub use read::read_script;
 pub use reply::Reply;
+pub use reply_words::push_bits;
 pub use script::Script;
 pub use script_defs::{Command, EntryKind, FileUse, Kind, Line, ScriptError};
 pub use transcript::Transcript;

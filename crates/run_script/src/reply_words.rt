@@ -47,8 +47,8 @@ fn push_bit_bytes(out: &mut Vec<u8>, bits: Bits) -> Result<(), NoMemory>
     Ok(())
 }
 
-/// Appends the word of the bits.
-fn push_bits(out: &mut Vec<u8>, bits: Bits) -> Result<(), NoMemory>
+/// Appends the word of the bits behind a blank.
+pub fn push_bits(out: &mut Vec<u8>, bits: Bits) -> Result<(), NoMemory>
     ensures { OnOk result (out.new.items ≡ and_word out.old.items (bits_word bits)) }
 {
     if bits.len() == 0 {

@@ -9,7 +9,7 @@ invariant_of-result c =
     let run_room = c.in_ok-with_capacity.ensures.exact in
     let order_room = c.in_ok-with_capacity-2.ensures.exact in
     let name_room = c.in_ok-all_names.ensures.room in (
-      named_new c.in_ok-all_names.field-0.items c.args.words c.args.blocks c.ranges.blocks.fits c.in_ok-all_names.ensures.many c.in_ok-all_names.ensures.names
+      named_new c.in_ok-all_names.field-0.items c.args.words c.args.blocks c.ranges.blocks.fits c.in_ok-all_names.ensures.names
           (blocks_in c.in_ok-with_capacity.field-0.items c.in_ok-empty_slots.field-0.items)
           (ap (blocks_in c.in_ok-with_capacity.field-0.items) c.in_ok-empty_slots.ensures ∙ blocks_new c.in_ok-with_capacity.field-0.items c.args.blocks),
       laid_new c.in_ok-with_capacity.field-0.items c.in_ok-with_capacity-2.field-0.items c.in_ok-empty_slots.field-0.items c.args.words c.args.blocks

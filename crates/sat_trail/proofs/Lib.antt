@@ -10,3 +10,4 @@ pub mod TurnLemmas
 pub mod VisitCases
 pub mod BoundLemmas
 pub mod TrailLemmas
+pub mod SearchLemmas

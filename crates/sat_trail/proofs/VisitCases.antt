@@ -87,7 +87,7 @@ module _ (clauses : List (Option Lits)) (variables : ℕ) (watch t : Lits) (link
       visited = back_visited;
       stages = λ n done watched. watched;
       fewer = fewer_by_one not_zero;
-      step = back_answered t (λ l h. h) beside;
+      leaves = back_answered t (λ l h. h) beside;
     }
 
     -- no literal of the clause but the other watch's is open
@@ -116,7 +116,7 @@ module _ (clauses : List (Option Lits)) (variables : ℕ) (watch t : Lits) (link
         visited = back_visited;
         stages = λ n done watched. watched;
         fewer = fewer_by_one not_zero;
-        step = (
+        leaves = (
           (clause.0, ap (clause_at clauses) e ∙ number_is, record { implied = beside_in; others = λ m h ne. others m (in_clause m h) ne }),
           (not_beside, open_beside),
           λ longer grows beside answered. back_answered longer grows beside answered,
@@ -131,7 +131,7 @@ module _ (clauses : List (Option Lits)) (variables : ℕ) (watch t : Lits) (link
         visited = back_visited;
         stages = λ n done watched. watched;
         fewer = fewer_by_one not_zero;
-        step = (
+        leaves = (
           clause.0,
           ap (clause_at clauses) e ∙ number_is,
           λ m h. elim (cases_eq (code m) (code (lit_at watch (other w)))) [
@@ -156,7 +156,7 @@ module _ (clauses : List (Option Lits)) (variables : ℕ) (watch t : Lits) (link
           (moved_set watch w m w_inside) codes;
       stages = moved_stages clauses (list_at links.lists 1) watch (set watch w m) w m (moved_set watch w m w_inside) t still_open not_true;
       fewer = fewer_by_one (λ e. let a = m_high in absurd (omega arith));
-      step = λ answered. answered_on clauses (list_at links.lists 1) watch (set watch w m) x m links.lists popped pushed w p visiting.visited first rest out p_is m_high inside put
+      leaves = λ answered. answered_on clauses (list_at links.lists 1) watch (set watch w m) x m links.lists popped pushed w p visiting.visited first rest out p_is m_high inside put
           (moved_set watch w m w_inside) codes visiting.watches t t (λ l h. h) x_high answered
           (λ same. absurd (still_open (subst (λ l. Has t (negation l)) (sym same) is_false)));
     }

@@ -48,5 +48,5 @@ pub record IsResting (clauses : List (Option Lits)) (variables : ℕ) (watch : L
 
 -- levels and reasons are listed for each variable
 pub record HasMarks (variables : ℕ) (levels reasons : List ℕ) : Type 0 where
-  pub levels : length levels ≡ variables + 1
-  pub reasons : length reasons ≡ variables + 1
+  pub level_size : length levels ≡ variables + 1
+  pub reason_size : length reasons ≡ variables + 1

@@ -37,10 +37,10 @@ IsSettlingOutcome clauses lists t lists_after t_after (Conflict k) =
 
 -- the clause of the even watch w has these two watches now, each in its list
 pub record AreBound (w : ℕ) (first second : Literal) (watch : Lits) (lists : List (List ℕ)) (later : Lits) (pushed : List (List ℕ)) : Type 0 where
-  pub watch : later ≡ set (set watch w first) (w + 1) second
+  pub written : later ≡ set (set watch w first) (w + 1) second
   pub front : List (List ℕ)
   pub in_front : front ≡ set lists (code first) (w ∷ list_at lists (code first))
-  pub lists : pushed ≡ set front (code second) ((w + 1) ∷ list_at front (code second))
+  pub behind : pushed ≡ set front (code second) ((w + 1) ∷ list_at front (code second))
 
 -- the literal is true, as before, or now, implied by the clause of this number
 abbrev pub IsForced : ℕ → Literal → ℕ → Lits → List ℕ → List ℕ → Lits → List ℕ → List ℕ → Type 0

@@ -30,4 +30,4 @@ pub record IsVisit (clauses : List (Option Lits)) (t : Lits) (x : Literal) (watc
   pub visited : AreVisited clauses (list_at lists 1) later pushed x
   pub stages : KeepsStages clauses (list_at lists 1) watch later t
   pub fewer : length (list_at pushed 0) < length (list_at lists 0)
-  pub step : IsLeft clauses t x watch lists later pushed step
+  pub leaves : IsLeft clauses t x watch lists later pushed step

@@ -50,11 +50,14 @@ fn visit_next(region: &Region, watches: &mut Watches, values: &mut Values, level
         watches.old.watch.items watches.old.links.lists values.old.assignment.lits
         watches.new.watch.items watches.new.links.lists values.new.assignment.lits result }
 {
-    match visit(region, watches, &values.assignment, x) {
-        None => Look::Done,
-        Some(Step::Answered) => Look::On,
-        Some(Step::Conflict(number)) => Look::Conflict(number),
-        Some(Step::Forces(number, l)) => {
+    let step = match visit(region, watches, &values.assignment, x) {
+        Some(step) => step,
+        None => return Look::Done,
+    };
+    match step {
+        Step::Answered => Look::On,
+        Step::Conflict(number) => Look::Conflict(number),
+        Step::Forces(number, l) => {
             imply(values, l, level, number);
             Look::On
         }

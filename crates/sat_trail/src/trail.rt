@@ -1,4 +1,4 @@
-ghost use Rattle.std.specs.Prelude.{◌≡◌, ◌≢◌, ◌⊎◌, ℕ, ◌+◌, ◌-◌, ◌<◌, ◌≤◌, ◌↔◌, ◌++◌, [], ◌∷◌, length, set, get_or, take, sum_by, None, Some, IsTrue, IfOk, IfErr, IfSome, IfNone};
+ghost use Rattle.std.specs.Prelude.{◌≡◌, ◌≢◌, ◌⊎◌, ℕ, ◌+◌, ◌-◌, ◌<◌, ◌≤◌, ◌↔◌, ◌++◌, [], ◌∷◌, length, set, get_or, take, sum_by, true, None, Some, IsTrue, IfOk, IfErr, IfSome, IfNone};
 ghost use Rattle.clause_defs.specs.Literals.{Literal};
 ghost use Rattle.clause_defs.specs.Clauses.{Lits, Has, IsClause, WithinVariables};
 ghost use Rattle.pch_region.specs.Blocks.{words_of, blocks_of};

@@ -50,9 +50,11 @@ impl Watches {
         }
     {
         let first = 2 * place;
+        let list = self.watch[first as usize].code();
+        let other_list = self.watch[first as usize + 1].code();
         self.remove(1, first);
-        self.remove(self.watch[first as usize].code(), first);
-        self.remove(self.watch[first as usize + 1].code(), first + 1);
+        self.remove(list, first);
+        self.remove(other_list, first + 1);
     }
 
     // Takes a watch out of a list, if it stands there.

@@ -74,7 +74,8 @@ impl Assignment {
     /// Whether the literal is true.
     pub fn holds(&self, l: Lit) -> bool
         requires { l.variable ≤ self.now.variables }
-        ensures { IsTrue result ↔ Has self.now.lits l }
+        ensures holds { IsTrue result ↔ Has self.now.lits l }
+        ensures known { IsAssignmentOf self.now.variables self.now.lits }
     {
         self.truths[l.code() as usize]
     }

@@ -11,3 +11,4 @@ pub mod VisitCases
 pub mod BoundLemmas
 pub mod TrailLemmas
 pub mod SearchLemmas
+pub mod VisitSteps

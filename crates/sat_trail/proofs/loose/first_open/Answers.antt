@@ -16,7 +16,7 @@ pub loop-m-preserved : goal.loop-m-preserved
 loop-m-preserved c =
     next_too (λ m. Has c.args.values.now.lits (negation m)) c.args.lits.now c.loop-m.m-index c.m-item.result
     c.loop-m-test.true c.m-item.is c.loop-m.invariant
-    (subst (Has c.args.values.now.lits) c.negated.ensures ((c.if-holds.ensures {u = tt}).0 refl))
+    (subst (Has c.args.values.now.lits) c.negated.ensures ((c.if-holds.ensures {u = tt}).holds.0 refl))
 
 pub returns-in-loop-m-clause-member : goal.returns-in-loop-m-clause-member
 returns-in-loop-m-clause-member c = at_has c.args.lits.now c.loop-m.m-index c.m-item.result (record { within = c.loop-m-test.true; read = c.m-item.is })

@@ -20,7 +20,7 @@ loop-m-preserved c =
     c.loop-m-test.true c.m-item.is c.loop-m.invariant
     (elim c.then-eq.branch [
       | then-eq-via-then-eq w ↦ λ ne. absurd (ne (code_injective c.m-item.result c.args.o (eqb-true (code c.m-item.result) (code c.args.o) (sym (w.if-eq.ensures {u = tt})))))
-      | then-eq-via-else-eq+then-holds w ↦ λ ne. subst (Has c.args.values.now.lits) w.negated.ensures ((w.if-holds.ensures {u = tt}).0 refl)
+      | then-eq-via-else-eq+then-holds w ↦ λ ne. subst (Has c.args.values.now.lits) w.negated.ensures ((w.if-holds.ensures {u = tt}).holds.0 refl)
     ])
 
 pub returns-in-loop-m-clause-member : goal.returns-in-loop-m-clause-member

@@ -12,3 +12,4 @@ pub mod BoundLemmas
 pub mod TrailLemmas
 pub mod SearchLemmas
 pub mod VisitSteps
+pub mod NextLemmas

@@ -94,8 +94,8 @@ impl Trail {
             done: 0,
             stages: Vec::with_capacity(alloc, set.variables() as usize)?,
         };
-        for k in 1..count + 1 {
-            let _ = trail.learn(set.clause(k));
+        for k in 0..count {
+            let _ = trail.learn(set.clause(k + 1));
         }
         trail.originals = count;
         Ok(trail)
@@ -288,9 +288,9 @@ fn literals_in(set: &ClauseSet, count: u32) -> Result<u32, NoMemory>
     ensures { IfOk result (λ n. n ≡ sum_by length (take count set.now.clauses)) }
 {
     let mut total: u32 = 0;
-    for k in 1..count + 1 {
+    for k in 0..count {
         total = total
-            .checked_add(set.clause(k).len() as u32)
+            .checked_add(set.clause(k + 1).len() as u32)
             .ok_or(NoMemory)?;
     }
     Ok(total)

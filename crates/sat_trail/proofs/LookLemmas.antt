@@ -1,5 +1,5 @@
 -- Changes that follow one another.
-use Rattle.std.proofs.Common.{◌≡◌, ◌≢◌, ◌⊎◌, ℕ, ◌+◌, ◌<◌, ◌≤◌, List, [], ◌∷◌, ◌++◌, length, set, get_or, Option, inl, inr, refl, sym, ap, ◌∙◌, subst, arith, length-append, append_assoc, append-nil, get_or-set_same, get_or-set_other}
+use Rattle.std.proofs.Common.{◌≡◌, ◌≢◌, ◌⊎◌, ℕ, ◌+◌, ◌<◌, ◌≤◌, List, [], ◌∷◌, ◌++◌, length, set, get_or, take, Option, inl, inr, refl, sym, ap, ◌∙◌, subst, arith, length-append, append_assoc, append-nil, get_or-set_same, get_or-set_other}
 use Rattle.std.proofs.lemmas.List.{length_push}
 use Rattle.clause_defs.specs.Literals.{Literal}
 use Rattle.clause_defs.specs.Clauses.{Lits, Has}
@@ -7,11 +7,12 @@ use Rattle.pch_base.proofs.SetLemmas.{Has-append}
 use Rattle.trail_defs.specs.Assignments.{IsFree}
 use Rattle.trail_defs.specs.Trails.{IsReason}
 use Rattle.assignment.proofs.ApartLemmas.{free_apart}
+use Rattle.sat_trail.specs.Watching.{IsWatched}
 use Rattle.sat_trail.specs.Stages.{stage_at, AreMarked, AreStages, KeepsStages, Grows}
 use Rattle.sat_trail.specs.Looks.{AreWithin, Keeps}
 use Rattle.sat_trail.specs.declared.levels.Stage.{Stage}
 use Rattle.sat_trail.proofs.LevelLemmas.{marked_put}
-use Rattle.sat_trail.proofs.StageLemmas.{stages_kept, stages_more}
+use Rattle.sat_trail.proofs.StageLemmas.{watched_more, stages_kept, stages_more}
 
 -- nothing grew
 pub grows_none : (t : Lits) (levels reasons : List ℕ) (level : ℕ) → Grows t t levels levels reasons reasons level
@@ -71,6 +72,16 @@ within_more t u levels levels1 reasons reasons1 level stages grows within j lt =
     let b : length u ≡ length t + length grows.more = ap length grows.is ∙ length-append t grows.more in
     omega arith
 
+-- with no level open there is the present alone
+no_stages : (clauses : List (Option Lits)) (loose : List ℕ) (watch t : Lits) (done : ℕ) → done ≤ length t → IsWatched clauses loose watch t (take done t)
+    → AreStages clauses loose watch t done []
+no_stages clauses loose watch t done le was = record {
+  passed = le;
+  now = was;
+  each = λ j lt. absurd (omega arith);
+  rising = λ i j up lt. absurd (omega arith);
+}
+
 module _ (clauses : List (Option Lits)) (variables level : ℕ) (loose loose1 loose2 : List ℕ) where
   -- what two changes keep one after another, they keep together
   pub keeps_on : (watch t : Lits) (levels reasons : List ℕ) (watch1 t1 : Lits) (levels1 reasons1 : List ℕ) (watch2 t2 : Lits) (levels2 reasons2 : List ℕ)
@@ -79,6 +90,8 @@ module _ (clauses : List (Option Lits)) (variables level : ℕ) (loose loose1 lo
       → Keeps clauses variables level loose loose2 watch t levels reasons watch2 t2 levels2 reasons2
   keeps_on watch t levels reasons watch1 t1 levels1 reasons1 watch2 t2 levels2 reasons2 first second = record {
     grows = grows_on t t1 t2 levels levels1 levels2 reasons reasons1 reasons2 level first.grows second.grows;
+    watched = λ done le was.
+        second.watched done (let a = ap length first.grows.is ∙ length-append t first.grows.more in omega arith) (first.watched done le was);
     stages = λ done stages len marked are.
         second.stages done stages len (first.marked stages len (λ j lt. let a = (are.each j lt).0.within in omega arith) marked)
         (first.stages done stages len marked are);
@@ -91,6 +104,7 @@ module _ (clauses : List (Option Lits)) (variables level : ℕ) (loose loose1 lo
       → Keeps clauses variables level loose loose watch t levels reasons later t levels reasons
   keeps_moved watch later t levels reasons keeps = record {
     grows = grows_none t levels reasons level;
+    watched = λ done le was. (stages_kept clauses loose watch t done [] (no_stages clauses loose watch t done le was) later keeps).now;
     stages = λ done stages len marked are. stages_kept clauses loose watch t done stages are later keeps;
     marked = λ stages len within marked. marked;
   }
@@ -101,6 +115,7 @@ module _ (clauses : List (Option Lits)) (variables level : ℕ) (loose loose1 lo
       → Keeps clauses variables level loose loose watch t levels reasons watch (t ++ l ∷ []) (set levels l.variable level) (set reasons l.variable number)
   keeps_put watch t levels reasons l number free inside level_size reason_size some reason = record {
     grows = grows_one t levels reasons level number l free (omega arith) (omega arith) some;
+    watched = λ done le was. watched_more clauses loose watch t l done le was;
     stages = λ done stages len marked are. stages_more clauses loose watch t done stages are l;
     marked = λ stages len within marked.
         subst (λ k. AreMarked clauses variables (t ++ l ∷ []) (set levels l.variable k) (set reasons l.variable number) stages) len

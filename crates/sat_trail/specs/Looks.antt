@@ -1,9 +1,9 @@
 -- What one look at a watch leaves, with the literal that it may have forced.
-use Rattle.std.specs.Prelude.{◌≡◌, ◌≢◌, ℕ, ◌+◌, ◌<◌, ◌≤◌, List, [], length, get_or, Option}
+use Rattle.std.specs.Prelude.{◌≡◌, ◌≢◌, ℕ, ◌+◌, ◌<◌, ◌≤◌, List, [], length, get_or, take, Option}
 use Rattle.clause_defs.specs.Literals.{Literal}
 use Rattle.clause_defs.specs.Clauses.{Lits}
 use Rattle.link_lists.specs.Linked.{Linked, list_at}
-use Rattle.sat_trail.specs.Watching.{AreOver, HasSizes, AreWatches, AreListed, AreVisited, AreAnswered}
+use Rattle.sat_trail.specs.Watching.{AreOver, HasSizes, AreWatches, IsWatched, AreListed, AreVisited, AreAnswered}
 use Rattle.sat_trail.specs.Stages.{stage_at, AreMarked, AreStages, Grows}
 use Rattle.sat_trail.specs.Visits.{IsInConflict}
 use Rattle.sat_trail.specs.declared.levels.Stage.{Stage}
@@ -18,6 +18,8 @@ AreWithin n stages = (j : ℕ) → j < length stages → (stage_at stages j).len
 pub record Keeps (clauses : List (Option Lits)) (variables level : ℕ) (loose loose_after : List ℕ)
     (watch t : Lits) (levels reasons : List ℕ) (watch_after t_after : Lits) (levels_after reasons_after : List ℕ) : Type 0 where
   pub grows : Grows t t_after levels levels_after reasons reasons_after level
+  pub watched : (done : ℕ) → done ≤ length t → IsWatched clauses loose watch t (take done t)
+      → IsWatched clauses loose_after watch_after t_after (take done t_after)
   pub stages : (done : ℕ) (stages : List Stage) → length stages ≡ level → AreMarked clauses variables t levels reasons stages
       → AreStages clauses loose watch t done stages → AreStages clauses loose_after watch_after t_after done stages
   pub marked : (stages : List Stage) → length stages ≡ level → AreWithin (length t) stages

@@ -58,6 +58,7 @@ impl Assignment {
     pub fn len(&self) -> usize
         ensures len { result ≡ length self.now.lits }
         ensures few { result ≤ self.now.variables }
+        ensures small { result ≤ MAX_VARIABLE }
         ensures known { IsAssignmentOf self.now.variables self.now.lits }
     {
         self.lits.len()

@@ -13,3 +13,4 @@ pub mod TrailLemmas
 pub mod SearchLemmas
 pub mod VisitSteps
 pub mod NextLemmas
+pub mod SpreadLemmas

@@ -99,6 +99,15 @@ module _ (clauses : List (Option Lits)) (variables level : ℕ) (loose loose1 lo
         second.marked stages len (within_more t t1 levels levels1 reasons reasons1 level stages first.grows within) (first.marked stages len within marked);
   }
 
+  -- nothing changed
+  pub keeps_same : (watch t : Lits) (levels reasons : List ℕ) → Keeps clauses variables level loose loose watch t levels reasons watch t levels reasons
+  keeps_same watch t levels reasons = record {
+    grows = grows_none t levels reasons level;
+    watched = λ done le was. was;
+    stages = λ done stages len marked are. are;
+    marked = λ stages len within marked. marked;
+  }
+
   -- the watches moved, and no literal came
   pub keeps_moved : (watch later t : Lits) (levels reasons : List ℕ) → KeepsStages clauses loose watch later t
       → Keeps clauses variables level loose loose watch t levels reasons later t levels reasons

@@ -1,5 +1,5 @@
 -- After one more watch was visited.
-use Rattle.std.proofs.Common.{◌≡◌, ◌≢◌, ◌⊎◌, ℕ, zero, suc, ◌+◌, ◌<◌, ◌≤◌, List, [], ◌∷◌, ◌++◌, length, set, get_or, Option, Some, None, IfSome, inl, inr, refl, sym, ap, ◌∙◌, subst, arith}
+use Rattle.std.proofs.Common.{◌≡◌, ◌≢◌, ◌⊎◌, ℕ, zero, suc, ◌+◌, ◌<◌, ◌≤◌, List, [], ◌∷◌, ◌++◌, length, set, get_or, Option, Some, None, IfSome, IfNone, inl, inr, refl, sym, ap, ◌∙◌, subst, arith}
 use Rattle.clause_defs.specs.Literals.{Literal, negation}
 use Rattle.clause_defs.specs.Clauses.{Lits, Has}
 use Rattle.pch_base.proofs.SetLemmas.{Has-append}
@@ -48,6 +48,28 @@ module _ (clauses : List (Option Lits)) (variables level : ℕ) (t : Lits) (leve
   pub keeps_visit : Keeps clauses variables level (list_at links.lists 1) (list_at links2.lists 1) watch t levels reasons later t levels reasons
   keeps_visit = subst (λ loose. Keeps clauses variables level (list_at links.lists 1) loose watch t levels reasons later t levels reasons) (sym v.loose)
       (keeps_moved clauses variables level (list_at links.lists 1) (list_at links.lists 1) (list_at links.lists 1) watch later t levels reasons v.stages)
+
+-- two changes, one after the other
+pub keeps_then : {clauses : List (Option Lits)} {variables n level : ℕ} {loose loose1 loose2 : List ℕ} {watch t watch1 t1 watch2 t2 : Lits}
+    {levels reasons levels1 reasons1 levels2 reasons2 : List ℕ} → n ≡ variables
+    → Keeps clauses variables level loose loose1 watch t levels reasons watch1 t1 levels1 reasons1
+    → Keeps clauses n level loose1 loose2 watch1 t1 levels1 reasons1 watch2 t2 levels2 reasons2
+    → Keeps clauses variables level loose loose2 watch t levels reasons watch2 t2 levels2 reasons2
+keeps_then {clauses = clauses} {variables = variables} {n = n} {level = level} {loose = loose} {loose1 = loose1} {loose2 = loose2}
+    {watch = watch} {t = t} {watch1 = watch1} {t1 = t1} {watch2 = watch2} {t2 = t2} {levels = levels} {reasons = reasons}
+    {levels1 = levels1} {reasons1 = reasons1} {levels2 = levels2} {reasons2 = reasons2} e first second =
+    keeps_on clauses variables level loose loose1 loose2 watch t levels reasons watch1 t1 levels1 reasons1 watch2 t2 levels2 reasons2 first
+    (subst (λ k. Keeps clauses k level loose1 loose2 watch1 t1 levels1 reasons1 watch2 t2 levels2 reasons2) e second)
+
+-- what is false stays so
+pub keeps_has : {clauses : List (Option Lits)} {variables level : ℕ} {loose loose1 : List ℕ} {watch t watch1 t1 : Lits} {levels reasons levels1 reasons1 : List ℕ}
+    → Keeps clauses variables level loose loose1 watch t levels reasons watch1 t1 levels1 reasons1 → (l : Literal) → Has t l → Has t1 l
+keeps_has {t = t} {t1 = t1} keeps l h = subst (λ s. Has s l) (sym keeps.grows.is) ((Has-append t keeps.grows.more l).1 (inl h))
+
+-- where there is no answer yet, what held goes on
+pub none_on : {A B : Type 0} (r : Option ℕ) → IfNone r A → (A → B) → IfNone r B
+none_on None a f = f a
+none_on (Some k) a f = tt
 
 -- the literal came with its level and its reason
 pub keeps_forced : (clauses : List (Option Lits)) (variables level : ℕ) (loose loose2 : List ℕ) (watch later t : Lits) (levels reasons : List ℕ) (number : ℕ) (l : Literal)

@@ -45,6 +45,10 @@ module _ (clauses : List (Option Lits)) (loose : List ℕ) (watch t : Lits) (lis
           (was.0, code_injective (lit_at watch v) x was.1);
     }
 
+  -- list 1 stays
+  pub turned_one : list_at turned 1 ≡ list_at lists 1
+  turned_one = at_other 1 (λ e. absurd (omega arith)) (λ z. absurd (omega arith))
+
   -- and none has come back
   pub turned_answered : AreAnswered watch turned t x
   turned_answered w has = let none : Has [] w = subst (λ ws. Has ws w) at_x has in absurd none

@@ -45,7 +45,7 @@ fn pass_on(
     ensures conflict { IfSome result (λ k. IsInConflict region.now.held values.new.assignment.lits k) }
     ensures all { IfNone result (done.new ≡ length values.new.assignment.lits) }
 {
-    while (*done as usize) < values.assignment.len() {
+    while values.assignment.len() > *done as usize {
         let l = values.assignment.get(*done as usize);
         match spread(region, watches, values, level, l.negated()) {
             Some(number) => return Some(number),

@@ -4,7 +4,7 @@
 //! into the list where it belongs then. So no list is changed in its middle. After a conflict the others are
 //! still put back.
 
-ghost use Rattle.std.specs.Prelude.{◌≡◌, IfSome, IfNone};
+ghost use Rattle.std.specs.Prelude.{◌≡◌, ◌≤◌, IfSome, IfNone};
 ghost use Rattle.clause_defs.specs.Literals.{negation};
 ghost use Rattle.clause_defs.specs.Clauses.{Has};
 ghost use Rattle.link_lists.specs.Linked.{list_at};
@@ -76,6 +76,7 @@ pub fn spread(
         watches.old.watch.items watches.old.links }
     requires marks { HasMarks values.old.assignment.variables values.old.levels.items values.old.reasons.items }
     requires is_false { Has values.old.assignment.lits (negation x) }
+    requires within { x.variable ≤ values.old.assignment.variables }
     ensures resting { IsResting region.now.held values.new.assignment.variables
         watches.new.watch.items watches.new.links }
     ensures marks { HasMarks values.new.assignment.variables values.new.levels.items values.new.reasons.items }

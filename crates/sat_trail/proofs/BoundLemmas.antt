@@ -6,7 +6,7 @@ use Rattle.clause_defs.specs.Clauses.{Lits, Has}
 use Rattle.sat_trail.specs.Watching.{lit_at, other, lits_at, IsBound, AreWatches, IsWatched}
 use Rattle.sat_trail.specs.Stages.{stage_at, AreStages}
 use Rattle.sat_trail.specs.declared.levels.Stage.{Stage}
-use Rattle.sat_trail.proofs.OtherLemmas.{other_half}
+use Rattle.sat_trail.proofs.OtherLemmas.{other_half, other_of_odd}
 
 -- the two lists have the same numbers
 abbrev pub SameNumbers : List ℕ → List ℕ → Type 0
@@ -48,24 +48,22 @@ module _ (clauses : List (Option Lits)) (loose loose2 : List ℕ) (watch : Lits)
   module _ (later : Lits) (size : length later ≡ length watch) (at_first : lit_at later (2 * b) ≡ first) (at_second : lit_at later (2 * b + 1) ≡ second)
       (others : (w : ℕ) → w / 2 ≢ b → lit_at later w ≡ lit_at watch w) where
 
-    -- what was watched stays so: the new watches bind nothing
-    pub bound_watched : (t passed : Lits) → (Has passed (negation first) → ⊥) → (Has passed (negation second) → ⊥)
+    -- What was watched stays so: the first new watch binds nothing, and where the second one is false the first one
+    -- is true.
+    pub bound_watched : (t passed : Lits) → (Has passed (negation first) → ⊥) → (Has passed (negation second) → Has t first)
         → IsWatched clauses loose watch t passed → IsWatched clauses loose2 later t passed
-    bound_watched t passed open_first open_second watched w bound has = elim (bound_cases w bound) [
-      | inr e ↦ elim (cases_eq w (2 * b)) [
+    bound_watched t passed open_first beside_second watched w bound has = elim (cases_eq (w / 2) b) [
+      | inl e ↦ elim (cases_eq w (2 * b)) [
         | inl f ↦ absurd (open_first (subst (λ l. Has passed (negation l)) (ap (lit_at later) f ∙ at_first) has))
         | inr nf ↦
             let g : w ≡ 2 * b + 1 = omega arith in
-            absurd (open_second (subst (λ l. Has passed (negation l)) (ap (lit_at later) g ∙ at_second) has))
+            let back : other w ≡ 2 * b = ap other g ∙ other_of_odd (2 * b) (omega arith) in
+            subst (Has t) (sym (ap (lit_at later) back ∙ at_first))
+            (beside_second (subst (λ l. Has passed (negation l)) (ap (lit_at later) g ∙ at_second) has))
       ]
-      | inl old ↦ elim (cases_eq (w / 2) b) [
-        | inl e ↦ elim (cases_eq w (2 * b)) [
-          | inl f ↦ absurd (open_first (subst (λ l. Has passed (negation l)) (ap (lit_at later) f ∙ at_first) has))
-          | inr nf ↦
-              let g : w ≡ 2 * b + 1 = omega arith in
-              absurd (open_second (subst (λ l. Has passed (negation l)) (ap (lit_at later) g ∙ at_second) has))
-        ]
-        | inr ne ↦
+      | inr ne ↦ elim (bound_cases w bound) [
+        | inr e ↦ absurd (ne e)
+        | inl old ↦
             let same = others w ne in
             let beside = others (other w) (λ e. ne (sym (other_half w) ∙ e)) in
             subst (Has t) (sym beside) (watched w old (subst (λ l. Has passed (negation l)) same has))

@@ -14,3 +14,7 @@ pub mod SearchLemmas
 pub mod VisitSteps
 pub mod NextLemmas
 pub mod SpreadLemmas
+pub mod PushLemmas
+pub mod SettleLemmas
+pub mod BindLemmas
+pub mod PassLemmas

@@ -10,6 +10,13 @@ other_cases w = elim (cases_eq (w % 2) 0) [
   | inr ne ↦ inr (omega arith, ap (λ b. if b then w + 1 else w - 1) (ne_eqb (w % 2) 0 ne))
 ]
 
+-- the even watch of a clause has the odd one behind it
+pub other_of_even : (w : ℕ) → w ≡ 2 * (w / 2) → other w ≡ w + 1
+other_of_even w even = elim (other_cases w) [
+  | inl c ↦ c.1
+  | inr c ↦ let a = c.0 in absurd (omega arith)
+]
+
 -- both are watches of one clause
 pub other_half : (w : ℕ) → other w / 2 ≡ w / 2
 other_half w = elim (other_cases w) [
@@ -34,6 +41,9 @@ other_ne w = elim (other_cases w) [
   | inl c ↦ λ e. let b = c.1 in absurd (omega arith)
   | inr c ↦ λ e. let a = c.0 in let b = c.1 in absurd (omega arith)
 ]
+
+pub other_of_odd : (w : ℕ) → w ≡ 2 * (w / 2) → other (w + 1) ≡ w
+other_of_odd w even = ap other (sym (other_of_even w even)) ∙ other_other w
 
 -- a watch of a list that has two for each clause has its other there too
 pub other_inside : (w n : ℕ) → w < 2 * n → other w < 2 * n

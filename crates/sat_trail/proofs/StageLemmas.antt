@@ -16,7 +16,8 @@ not_not : (b : Bool) → not (not b) ≡ b
 not_not true = refl
 not_not false = refl
 
-negation_negation : (l : Literal) → negation (negation l) ≡ l
+-- the negation of a negation is the literal
+pub negation_negation : (l : Literal) → negation (negation l) ≡ l
 negation_negation l i = record { variable = l.variable; positive = not_not l.positive i }
 
 module _ (clauses : List (Option Lits)) (loose : List ℕ) (watch t : Lits) where

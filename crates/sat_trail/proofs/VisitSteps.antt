@@ -9,7 +9,8 @@ use Rattle.sat_trail.specs.Watching.{no_literal, lit_at, other, lits_in, lits_at
 use Rattle.sat_trail.specs.Looks.{IsVisiting}
 use Rattle.sat_trail.proofs.OtherLemmas.{other_half, other_inside, bound_other}
 
-not_same : (b : Bool) → b ≡ not b → ⊥
+-- no truth is its opposite
+pub not_same : (b : Bool) → b ≡ not b → ⊥
 not_same true e = true≢false e
 not_same false e = true≢false (sym e)
 

@@ -18,3 +18,4 @@ pub mod PushLemmas
 pub mod SettleLemmas
 pub mod BindLemmas
 pub mod PassLemmas
+pub mod LooseLemmas

@@ -67,7 +67,8 @@ impl Assignment {
     /// The literal at a place.
     pub fn get(&self, i: usize) -> Lit
         requires { i < length self.now.lits }
-        ensures { IsAt self.now.lits i result }
+        ensures at { IsAt self.now.lits i result }
+        ensures known { IsAssignmentOf self.now.variables self.now.lits }
     {
         self.lits[i]
     }
@@ -87,6 +88,7 @@ impl Assignment {
         requires high { v ≤ self.now.variables }
         ensures some { IfSome result (λ b. Has self.now.lits (record { variable = v; positive = b })) }
         ensures none { IfNone result (IsFree self.now.lits (record { variable = v; positive = true })) }
+        ensures known { IsAssignmentOf self.now.variables self.now.lits }
     {
         if self.truths[2 * v as usize + 1] {
             Some(true)

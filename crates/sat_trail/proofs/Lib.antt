@@ -19,3 +19,4 @@ pub mod SettleLemmas
 pub mod BindLemmas
 pub mod PassLemmas
 pub mod LooseLemmas
+pub mod KeptLemmas

@@ -1,9 +1,10 @@
 //! Levels, and what is kept of each literal beside its value.
 
-ghost use Rattle.std.specs.Prelude.{◌≡◌, ◌+◌, ◌≤◌, ◌++◌, [], ◌∷◌, length, set};
+ghost use Rattle.std.specs.Prelude.{◌≡◌, ◌+◌, ◌≤◌, ◌++◌, [], ◌∷◌, length, set, IfOk};
 ghost use Rattle.trail_defs.specs.Assignments.{IsFree};
 
 use assignment::Assignment;
+use clause_defs::MAX_VARIABLE;
 use pch_base::{Lit, NoMemory};
 use std::alloc::Global;
 
@@ -26,7 +27,13 @@ pub struct Values {
 
 impl Values {
     /// No values, with room for one of each variable.
-    pub fn new(alloc: Global, variables: u32) -> Result<Values, NoMemory> {
+    pub fn new(alloc: Global, variables: u32) -> Result<Values, NoMemory>
+        requires { variables ≤ MAX_VARIABLE }
+        ensures variables { IfOk result (λ v. v.assignment.variables ≡ variables) }
+        ensures empty { IfOk result (λ v. v.assignment.lits ≡ []) }
+        ensures levels { IfOk result (λ v. length v.levels.items ≡ variables + 1) }
+        ensures reasons { IfOk result (λ v. length v.reasons.items ≡ variables + 1) }
+    {
         Ok(Values {
             assignment: Assignment::new(alloc, variables)?,
             levels: vec![in alloc; 0u32; variables as usize + 1]?,

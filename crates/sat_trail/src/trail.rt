@@ -30,10 +30,12 @@ pub struct Trail {
     done: u32,
     // for each level how far the trail was when it was opened
     stages: Vec<Stage>,
+    // the present level, as many as there are stages
+    present: u32,
 }
 
 impl Model for Trail {
-    ghost use Rattle.std.specs.Prelude.{◌≤◌, length, vec_capacity};
+    ghost use Rattle.std.specs.Prelude.{◌≡◌, ◌≤◌, length, vec_capacity};
     ghost use Rattle.trail_defs.specs.Trails.{Assigned};
     ghost use Rattle.sat_trail.specs.Kept.{IsKept};
 
@@ -46,7 +48,7 @@ impl Model for Trail {
       lits = t.values.assignment.lits;
       levels = t.values.levels.items;
       reasons = t.values.reasons.items;
-      present = length t.stages.items;
+      present = t.present;
       words = t.region.words;
     } };
 
@@ -54,7 +56,8 @@ impl Model for Trail {
         IsKept t.values.assignment.variables t.originals t.region.held t.values.assignment.lits
         t.values.levels.items t.values.reasons.items t.stages.items t.done
         t.watches.watch.items t.watches.links
-      × (t.values.assignment.variables ≤ vec_capacity t.stages) };
+      × (t.values.assignment.variables ≤ vec_capacity t.stages)
+      × (t.present ≡ length t.stages.items) };
 }
 
 impl Trail {
@@ -85,20 +88,22 @@ impl Trail {
             IsOpened set.now.variables (take count set.now.clauses) extra_words extra_blocks t) }
     {
         let blocks = count.checked_add(extra_blocks).ok_or(NoMemory)?;
-        let words = literals_in(set, count)?.checked_add(extra_words).ok_or(NoMemory)?;
-        let mut trail = Trail {
-            originals: 0,
-            region: Region::new(alloc, words, blocks)?,
-            watches: Watches::new(alloc, set.variables(), blocks)?,
+        let links = blocks.checked_mul(2).ok_or(NoMemory)?;
+        let words = literals_in(set, count)?
+            .checked_add(extra_words)
+            .ok_or(NoMemory)?;
+        let mut region = Region::new(alloc, words, blocks)?;
+        let mut watches = Watches::new(alloc, set.variables(), links)?;
+        load(set, count, &mut region, &mut watches);
+        Ok(Trail {
+            originals: count,
+            region,
+            watches,
             values: Values::new(alloc, set.variables())?,
             done: 0,
             stages: Vec::with_capacity(alloc, set.variables() as usize)?,
-        };
-        for k in 0..count {
-            let _ = trail.learn(set.clause(k + 1));
-        }
-        trail.originals = count;
-        Ok(trail)
+            present: 0,
+        })
     }
 
     /// Opens a level and gives `l` the value true, as the last literal. Its variable has no value.
@@ -115,7 +120,8 @@ impl Trail {
             len: self.values.assignment.len() as u32,
             done: self.done,
         });
-        imply(&mut self.values, l, self.stages.len() as u32, 0);
+        self.present += 1;
+        imply(&mut self.values, l, self.present, 0);
     }
 
     /// Gives values to the literals that clauses imply, each with its reason, behind those that have one.
@@ -135,7 +141,7 @@ impl Trail {
             &self.region,
             &mut self.watches,
             &mut self.values,
-            self.stages.len() as u32,
+            self.present,
             &mut self.done,
         )
     }
@@ -149,11 +155,12 @@ impl Trail {
         ensures present { self.new.present ≡ level }
         ensures same { HasSameClauses self.old self.new }
     {
-        if (level as usize) < self.stages.len() {
+        if level < self.present {
             let stage = self.stages[level as usize];
             self.values.assignment.back_to(stage.len as usize);
             self.done = stage.done;
             self.stages.truncate(level as usize);
+            self.present = level;
         }
     }
 
@@ -196,16 +203,14 @@ impl Trail {
 
     /// The present level: how many levels are open.
     pub fn present(&self) -> u32
-        ensures present { result ≡ self.now.present }
-        ensures known { IsTrail self.now }
+        ensures { result ≡ self.now.present }
     {
-        self.stages.len() as u32
+        self.present
     }
 
     /// Whether the clause of this number is live.
     pub fn is_live(&self, c: u32) -> bool
-        ensures live { IsTrue result ↔ (clause_at self.now.clauses c ≢ None) }
-        ensures known { IsTrail self.now }
+        ensures { IsTrue result ↔ (clause_at self.now.clauses c ≢ None) }
     {
         c > 0 && self.region.is_live(Block::from_name(c - 1))
     }
@@ -230,8 +235,7 @@ impl Trail {
     /// The level of a variable that has a value.
     pub fn level(&self, v: u32) -> u32
         requires { (l : Literal) × Has self.now.lits l × (l.variable ≡ v) }
-        ensures level { result ≡ get_or self.now.levels v 0 }
-        ensures known { IsTrail self.now }
+        ensures { result ≡ get_or self.now.levels v 0 }
     {
         self.values.levels[v as usize]
     }
@@ -294,4 +298,14 @@ fn literals_in(set: &ClauseSet, count: u32) -> Result<u32, NoMemory>
             .ok_or(NoMemory)?;
     }
     Ok(total)
+}
+
+// Puts the first `count` clauses of the set into the region, all of them loose.
+fn load(set: &ClauseSet, count: u32, region: &mut Region, watches: &mut Watches)
+    requires count { count ≤ length set.now.clauses }
+{
+    for k in 0..count {
+        let _ = region.put(set.clause(k + 1));
+        watches.links.push(1, 2 * k);
+    }
 }

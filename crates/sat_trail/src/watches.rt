@@ -20,16 +20,15 @@ pub struct Watches {
 }
 
 impl Watches {
-    /// No watches, with room for two of each of so many clauses.
-    pub fn new(alloc: Global, variables: u32, blocks: u32) -> Result<Watches, NoMemory>
-        requires few { 2 * blocks < 2 ^ 32 }
+    /// Room for so many watches of clauses over so many variables, none of them in a list.
+    pub fn new(alloc: Global, variables: u32, watches: u32) -> Result<Watches, NoMemory>
         requires few_variables { variables ≤ MAX_VARIABLE }
-        ensures watch { IfOk result (λ w. length w.watch.items ≡ 2 * blocks) }
-        ensures size { IfOk result (λ w. w.links.size ≡ 2 * blocks) }
+        ensures watch { IfOk result (λ w. length w.watch.items ≡ watches) }
+        ensures size { IfOk result (λ w. w.links.size ≡ watches) }
         ensures lists { IfOk result (λ w. w.links.lists ≡ replicate (2 * variables + 4) []) }
     {
-        let watch = vec![in alloc; Lit::new(1); 2 * blocks as usize]?;
-        let links = Links::new(alloc, 2 * blocks, 2 * variables as usize + 4)?;
+        let watch = vec![in alloc; Lit::new(1); watches as usize]?;
+        let links = Links::new(alloc, watches, 2 * variables as usize + 4)?;
         Ok(Watches { watch, links })
     }
 

@@ -20,3 +20,4 @@ pub mod BindLemmas
 pub mod PassLemmas
 pub mod LooseLemmas
 pub mod KeptLemmas
+pub mod StepLemmas

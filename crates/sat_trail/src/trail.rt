@@ -234,7 +234,8 @@ impl Trail {
 
     /// The level of a variable that has a value.
     pub fn level(&self, v: u32) -> u32
-        requires { (l : Literal) × Has self.now.lits l × (l.variable ≡ v) }
+        requires given { (l : Literal) × Has self.now.lits l × (l.variable ≡ v) }
+        requires high { v ≤ self.now.variables }
         ensures { result ≡ get_or self.now.levels v 0 }
     {
         self.values.levels[v as usize]
@@ -291,13 +292,13 @@ fn literals_in(set: &ClauseSet, count: u32) -> Result<u32, NoMemory>
     requires { count ≤ length set.now.clauses }
     ensures { IfOk result (λ n. n ≡ sum_by length (take count set.now.clauses)) }
 {
-    let mut total: u32 = 0;
+    let mut total: usize = 0;
     for k in 0..count {
         total = total
-            .checked_add(set.clause(k + 1).len() as u32)
+            .checked_add(set.clause(k + 1).len())
             .ok_or(NoMemory)?;
     }
-    Ok(total)
+    u32::try_from(total).map_err(|_| NoMemory)
 }
 
 // Puts the first `count` clauses of the set into the region, all of them loose.

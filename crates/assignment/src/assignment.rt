@@ -105,6 +105,7 @@ impl Assignment {
         requires within { l.variable ≤ self.old.variables }
         ensures lits { self.new.lits ≡ self.old.lits ++ l ∷ [] }
         ensures variables { self.new.variables ≡ self.old.variables }
+        ensures few { length self.new.lits ≤ self.new.variables }
     {
         self.truths[l.code() as usize] = true;
         self.lits.push_reserved(l);

@@ -1,18 +1,15 @@
 -- What a trail keeps gives the readers their answers.
 use Rattle.std.proofs.Common.{◌≡◌, ◌≢◌, ◌⊎◌, ℕ, zero, suc, ◌+◌, ◌<◌, ◌≤◌, List, [], ◌∷◌, ◌++◌, length, set, get_or, take, Option, Some, None, inl, inr, refl, sym, ap, ◌∙◌, subst, arith}
-use Rattle.std.proofs.lemmas.List.{length_push}
 use Rattle.clause_defs.specs.Literals.{Literal, IsLiteral}
 use Rattle.clause_defs.specs.Clauses.{Lits, Has, IsClause, WithinVariables}
-use Rattle.pch_base.proofs.SetLemmas.{Has-append}
 use Rattle.link_lists.specs.Linked.{Linked, list_at}
 use Rattle.trail_defs.specs.Assignments.{IsAt, IsFree, IsAssignmentOf}
 use Rattle.trail_defs.specs.Trails.{Assigned, clause_at, IsTrail}
-use Rattle.assignment.proofs.ApartLemmas.{apart_push, free_apart, few_literals}
 use Rattle.sat_trail.specs.Watching.{AreOver}
 use Rattle.sat_trail.specs.Stages.{AreMarked, AreStages}
 use Rattle.sat_trail.specs.Kept.{IsKept}
 use Rattle.sat_trail.specs.declared.levels.Stage.{Stage}
-use Rattle.sat_trail.proofs.TrailLemmas.{has_place, first_of_level, level_0_implied, levels_rise, few_stages}
+use Rattle.sat_trail.proofs.TrailLemmas.{has_place, first_of_level, level_0_implied, levels_rise}
 
 -- a live clause is a clause over the variables
 pub clause_over : (variables : ℕ) (clauses : List (Option Lits)) → AreOver variables clauses → (k : ℕ) (c : Lits) → clause_at clauses k ≡ Some c
@@ -43,19 +40,3 @@ module _ (variables originals : ℕ) (clauses : List (Option Lits)) (t : Lits) (
     rising = levels_rise clauses variables t levels reasons stages kept.marked;
     top = λ l h. let place = has_place t l h in let top = kept.marked.top place.0 l place.1 in omega arith;
   }
-
-  -- where a variable has no value, fewer levels are open than there are variables
-  pub kept_few : (l : Literal) → IsFree t l → IsLiteral l → l.variable ≤ variables → length stages < variables
-  kept_few l free literal within =
-      let more : IsAssignmentOf variables (t ++ l ∷ []) = record {
-        literals = λ m h. elim ((Has-append t (l ∷ []) m).0 h) [
-          | inl old ↦ known.literals m old
-          | inr (inl e) ↦ subst (λ k. IsLiteral k × (k.variable ≤ variables)) e (literal, within)
-          | inr (inr none) ↦ absurd none
-        ];
-        apart = apart_push t l known.apart (free_apart t l free);
-      } in
-      let few = few_literals variables (t ++ l ∷ []) more in
-      let len = length_push t l in
-      let low = few_stages clauses (list_at links.lists 1) watch t done stages kept.stages_are in
-      omega arith

@@ -79,3 +79,32 @@ module _ (variables originals : ℕ) (clauses : List (Option Lits)) (t : Lits) (
   -- no level is above the present one
   pub top_left : (n : ℕ) → n ≡ length stages → (l : Literal) → Has t l → get_or levels l.variable 0 ≤ n
   top_left n e l h = let place = has_place t l h in let top = kept.marked.top place.0 l place.1 in omega arith
+
+-- ---- the same, as it is written
+
+module _ (variables originals : ℕ) (clauses : List (Option Lits)) (t : Lits) (levels reasons : List ℕ) (stages : List Stage)
+    (done : ℕ) (watch : Lits) (links : Linked) (kept : IsKept variables originals clauses t levels reasons stages done watch links) where
+  pub assigned_as : (l : Literal) → IsFree t l → l.variable ≤ variables → (s : Stage) → s.len ≡ length t → s.done ≡ done → (present : ℕ) → present ≡ length stages + 1
+      → (variables2 : ℕ) (t2 : Lits) (levels2 reasons2 : List ℕ) (stages2 : List Stage)
+      → variables2 ≡ variables → t2 ≡ t ++ l ∷ [] → levels2 ≡ set levels l.variable present → reasons2 ≡ set reasons l.variable 0 → stages2 ≡ stages ++ s ∷ []
+      → IsKept variables2 originals clauses t2 levels2 reasons2 stages2 done watch links
+  assigned_as l free within s len_is done_is present e variables2 t2 levels2 reasons2 stages2 ev et el er es =
+      subst (λ n. IsKept n originals clauses t2 levels2 reasons2 stages2 done watch links) (sym ev)
+      (subst (λ u. IsKept variables originals clauses u levels2 reasons2 stages2 done watch links) (sym et)
+      (subst (λ ks. IsKept variables originals clauses (t ++ l ∷ []) ks reasons2 stages2 done watch links) (sym el)
+      (subst (λ rs. IsKept variables originals clauses (t ++ l ∷ []) (set levels l.variable present) rs stages2 done watch links) (sym er)
+      (subst (λ ss. IsKept variables originals clauses (t ++ l ∷ []) (set levels l.variable present) (set reasons l.variable 0) ss done watch links) (sym es)
+      (kept_assigned variables originals clauses t levels reasons stages done watch links kept l free within s len_is done_is present e)))))
+
+  pub back_as : (n : ℕ) → n < length stages → (s : Stage) → s ≡ stage_at stages n → (variables2 : ℕ) (t2 : Lits) (stages2 : List Stage)
+      → variables2 ≡ variables → t2 ≡ take s.len t → stages2 ≡ take n stages → IsKept variables2 originals clauses t2 levels reasons stages2 s.done watch links
+  back_as n lt s is variables2 t2 stages2 ev et es =
+      subst (λ k. IsKept k originals clauses t2 levels reasons stages2 s.done watch links) (sym ev)
+      (subst (λ u. IsKept variables originals clauses u levels reasons stages2 s.done watch links) (sym et)
+      (subst (λ ss. IsKept variables originals clauses (take s.len t) levels reasons ss s.done watch links) (sym es)
+      (subst (λ (q : Stage). IsKept variables originals clauses (take q.len t) levels reasons (take n stages) q.done watch links) (sym is)
+      (kept_back variables originals clauses t levels reasons stages done watch links kept n lt))))
+
+-- what is left is a front of what there was
+pub front_is : (t u before : Lits) (n : ℕ) → u ≡ take n t → n ≤ length t → t ≡ before → u ≡ take (length u) before
+front_is t u before n e le same = e ∙ ap (λ k. take k t) (sym (ap length e ∙ length-take-le n t le)) ∙ ap (take (length u)) same

@@ -50,6 +50,7 @@ pub fn imply(values: &mut Values, l: Lit, level: u32, number: u32)
     requires reason_size { length values.old.reasons.items ≡ values.old.assignment.variables + 1 }
     ensures lits { values.new.assignment.lits ≡ values.old.assignment.lits ++ l ∷ [] }
     ensures variables { values.new.assignment.variables ≡ values.old.assignment.variables }
+    ensures few { length values.new.assignment.lits ≤ values.new.assignment.variables }
     ensures levels { values.new.levels.items ≡ set values.old.levels.items l.variable level }
     ensures reasons { values.new.reasons.items ≡ set values.old.reasons.items l.variable number }
 {

@@ -116,12 +116,13 @@ impl Trail {
         ensures present { self.new.present ≡ self.old.present + 1 }
         ensures same { HasSameClauses self.old self.new }
     {
-        self.stages.push_reserved(Stage {
+        let stage = Stage {
             len: self.values.assignment.len() as u32,
             done: self.done,
-        });
+        };
         self.present += 1;
         imply(&mut self.values, l, self.present, 0);
+        self.stages.push_reserved(stage);
     }
 
     /// Gives values to the literals that clauses imply, each with its reason, behind those that have one.

@@ -21,3 +21,4 @@ pub mod PassLemmas
 pub mod LooseLemmas
 pub mod KeptLemmas
 pub mod StepLemmas
+pub mod LoadLemmas

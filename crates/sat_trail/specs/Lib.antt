@@ -5,3 +5,4 @@ pub mod Looks
 pub mod Loosening
 pub mod Releases
 pub mod Kept
+pub mod Loading

@@ -1,9 +1,10 @@
-ghost use Rattle.std.specs.Prelude.{◌≡◌, ◌≢◌, ◌⊎◌, ℕ, ◌+◌, ◌-◌, ◌<◌, ◌≤◌, ◌↔◌, ◌++◌, [], ◌∷◌, length, set, get_or, take, sum_by, true, None, Some, IsTrue, IfOk, IfErr, IfSome, IfNone};
+ghost use Rattle.std.specs.Prelude.{◌≡◌, ◌≢◌, ◌⊎◌, ℕ, ◌+◌, ◌*◌, ◌-◌, ◌<◌, ◌≤◌, ◌↔◌, ◌++◌, [], ◌∷◌, length, set, get_or, take, sum_by, true, None, Some, IsTrue, IfOk, IfErr, IfSome, IfNone};
 ghost use Rattle.clause_defs.specs.Literals.{Literal};
 ghost use Rattle.clause_defs.specs.Clauses.{Lits, Has, IsClause, WithinVariables};
-ghost use Rattle.pch_region.specs.Blocks.{words_of, blocks_of};
+ghost use Rattle.pch_region.specs.Blocks.{words_of, blocks_of, AreAllNames};
 ghost use Rattle.trail_defs.specs.Assignments.{IsAt, IsFree, IsSettled, IsConflict};
 ghost use Rattle.trail_defs.specs.Trails.{clause_at, reason_of, IsTrail, IsOpened, IsUpTo, IsGrown, HasSameClauses, IsNoReason, HasSameValues};
+ghost use Rattle.sat_trail.specs.Loading.{IsLoading, AreLoadedLists};
 
 use crate::levels::{Stage, Values, imply};
 use crate::propagation::propagate;
@@ -293,18 +294,32 @@ fn literals_in(set: &ClauseSet, count: u32) -> Result<u32, NoMemory>
     requires { count ≤ length set.now.clauses }
     ensures { IfOk result (λ n. n ≡ sum_by length (take count set.now.clauses)) }
 {
-    let mut total: usize = 0;
+    let mut total: u32 = 0;
     for k in 0..count {
-        total = total
-            .checked_add(set.clause(k + 1).len())
-            .ok_or(NoMemory)?;
+        let more = set.clause(k + 1).len();
+        if more > (u32::MAX - total) as usize {
+            return Err(NoMemory);
+        }
+        total += more as u32;
     }
-    u32::try_from(total).map_err(|_| NoMemory)
+    Ok(total)
 }
 
-// Puts the first `count` clauses of the set into the region, all of them loose.
+// Puts the first `count` clauses of the set into an empty region, all of them loose.
 fn load(set: &ClauseSet, count: u32, region: &mut Region, watches: &mut Watches)
     requires count { count ≤ length set.now.clauses }
+    requires loading { IsLoading set.now.clauses (length region.old.held) 0 region.old.held }
+    requires names { AreAllNames (length region.old.held) region.old.unused }
+    requires blocks { count ≤ length region.old.held }
+    requires words { sum_by length (take count set.now.clauses) ≤ region.old.words }
+    requires size { watches.old.links.size ≡ 2 * length region.old.held }
+    requires lists { AreLoadedLists 0 watches.old.links.lists }
+    ensures loading { IsLoading set.now.clauses (length region.old.held) count region.new.held }
+    ensures words { region.new.words ≡ region.old.words }
+    ensures watch { watches.new.watch ≡ watches.old.watch }
+    ensures size { watches.new.links.size ≡ watches.old.links.size }
+    ensures lists { AreLoadedLists count watches.new.links.lists }
+    ensures many_lists { length watches.new.links.lists ≡ length watches.old.links.lists }
 {
     for k in 0..count {
         let _ = region.put(set.clause(k + 1));

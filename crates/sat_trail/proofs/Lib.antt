@@ -22,3 +22,4 @@ pub mod LooseLemmas
 pub mod KeptLemmas
 pub mod StepLemmas
 pub mod LoadLemmas
+pub mod LearnLemmas

@@ -23,3 +23,5 @@ pub mod KeptLemmas
 pub mod StepLemmas
 pub mod LoadLemmas
 pub mod LearnLemmas
+pub mod PropagateLemmas
+pub mod ForgetLemmas

@@ -1,4 +1,4 @@
-ghost use Rattle.std.specs.Prelude.{◌≡◌, ◌≢◌, ◌⊎◌, ℕ, ◌+◌, ◌*◌, ◌-◌, ◌<◌, ◌≤◌, ◌↔◌, ◌++◌, [], ◌∷◌, length, set, get_or, take, sum_by, true, None, Some, IsTrue, IfOk, IfErr, IfSome, IfNone};
+ghost use Rattle.std.specs.Prelude.{◌≡◌, ◌≢◌, ◌⊎◌, ℕ, ◌+◌, ◌*◌, ◌-◌, ◌^◌, ◌<◌, ◌≤◌, ◌↔◌, ◌++◌, [], ◌∷◌, length, set, get_or, take, sum_by, true, None, Some, IsTrue, IfOk, IfErr, IfSome, IfNone};
 ghost use Rattle.clause_defs.specs.Literals.{Literal};
 ghost use Rattle.clause_defs.specs.Clauses.{Lits, Has, IsClause, WithinVariables};
 ghost use Rattle.pch_region.specs.Blocks.{words_of, blocks_of, AreAllNames};
@@ -313,6 +313,7 @@ fn load(set: &ClauseSet, count: u32, region: &mut Region, watches: &mut Watches)
     requires blocks { count ≤ length region.old.held }
     requires words { sum_by length (take count set.now.clauses) ≤ region.old.words }
     requires size { watches.old.links.size ≡ 2 * length region.old.held }
+    requires few { watches.old.links.size < 2 ^ 32 }
     requires lists { AreLoadedLists 0 watches.old.links.lists }
     ensures loading { IsLoading set.now.clauses (length region.old.held) count region.new.held }
     ensures words { region.new.words ≡ region.old.words }

@@ -37,9 +37,6 @@ impl Watches {
         requires within { 2 * place + 1 < length self.old.watch.items }
         requires few { length self.old.watch.items < 2 ^ 32 }
         requires size { self.old.links.size ≡ length self.old.watch.items }
-        requires lists {
-            (w : ℕ) → code (lit_at self.old.watch.items w) < length self.old.links.lists
-        }
         requires two_lists { 2 ≤ length self.old.links.lists }
         requires left { list_at self.old.links.lists 0 ≡ [] }
         ensures watch { self.new.watch ≡ self.old.watch }
@@ -56,15 +53,17 @@ impl Watches {
         self.remove(other_list, first + 1);
     }
 
-    // Takes a watch out of a list, if it stands there.
+    // Takes a watch out of a list, if there is such a list and the watch stands there.
     fn remove(&mut self, list: u32, w: u32)
-        requires list { list < length self.old.links.lists }
         requires not_0 { 1 ≤ list }
         requires left { list_at self.old.links.lists 0 ≡ [] }
         ensures watch { self.new.watch ≡ self.old.watch }
         ensures size { self.new.links.size ≡ self.old.links.size }
         ensures lists { IsWithout self.old.links.lists list w self.new.links.lists }
     {
+        if list as usize >= self.links.lists() {
+            return;
+        }
         self.links.turn(list, 0);
         while let Some(v) = self.links.pop(0) {
             if v == w {

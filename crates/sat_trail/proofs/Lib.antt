@@ -25,3 +25,4 @@ pub mod LoadLemmas
 pub mod LearnLemmas
 pub mod PropagateLemmas
 pub mod ForgetLemmas
+pub mod PutLemmas

@@ -1,6 +1,6 @@
 -- What a trail keeps when a clause goes that is no reason.
 use Rattle.std.proofs.Common.{◌≡◌, ◌≢◌, ◌⊎◌, ◌↔◌, ℕ, zero, suc, ◌+◌, ◌*◌, ◌/◌, ◌<◌, ◌≤◌, List, [], ◌∷◌, length, set, get_or, take, Option, Some, None, inl, inr, refl, sym, ap, ◌∙◌, subst, arith, length-set, get_or-set_same, get_or-set_other}
-use Rattle.std.proofs.lemmas.Bool.{cases_eq}
+use Rattle.std.proofs.lemmas.Bool.{cases_eq, cases_lt}
 use Rattle.std.proofs.lemmas.List.{get_or_past}
 use Rattle.clause_defs.specs.Literals.{Literal, negation, code}
 use Rattle.clause_defs.specs.Clauses.{Lits, Has}
@@ -23,6 +23,13 @@ without_past lists l w past left = record {
   gone = λ h. let none : Has [] w = subst (λ ws. Has ws w) (get_or_past lists l [] past) h in none;
   left = left;
 }
+
+-- a number of a live clause is one more than a place
+pub place_of_live : (clauses : List (Option Lits)) (k n : ℕ) → k ≡ suc n → clause_at clauses k ≢ None → n < length clauses
+place_of_live clauses k n e live = elim (cases_lt n (length clauses)) [
+  | inl lt ↦ lt
+  | inr past ↦ absurd (live (ap (clause_at clauses) e ∙ get_or_past clauses n None past))
+]
 
 module _ (variables originals : ℕ) (clauses : List (Option Lits)) (t : Lits) (levels reasons : List ℕ) (stages : List Stage)
     (done : ℕ) (watch : Lits) (links : Linked) (kept : IsKept variables originals clauses t levels reasons stages done watch links)

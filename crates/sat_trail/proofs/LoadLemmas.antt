@@ -5,7 +5,6 @@ use Rattle.std.proofs.lemmas.List.{same_lists, get_or_append_left, get_or-append
 use Rattle.std.proofs.lemmas.List.Sums.{sum_by_more, sum_by-set}
 use Rattle.clause_defs.specs.Literals.{Literal}
 use Rattle.clause_defs.specs.Clauses.{Lits, Has, IsClause, WithinVariables}
-use Rattle.pch_base.proofs.SetLemmas.{Contains-Has}
 use Rattle.pch_region.specs.Blocks.{held_at, size, one, words_of, blocks_of}
 use Rattle.sat_values.specs.ClauseLists.{AreClausesOver}
 use Rattle.link_lists.specs.Linked.{Linked, list_at}
@@ -101,8 +100,11 @@ get_or_none [] b d lt = absurd (omega arith)
 get_or_none (x ∷ xs) zero d lt = refl
 get_or_none (x ∷ xs) (suc b) d lt = get_or_none xs b d (omega arith)
 
+-- a clause at a place is one of them
 has_at : (cs : List Lits) (b : ℕ) → b < length cs → Has cs (get_or cs b [])
-has_at cs b lt = Contains-Has cs (get_or cs b []) (b, lt, refl)
+has_at [] b lt = absurd (omega arith)
+has_at (d ∷ cs) zero lt = inl refl
+has_at (d ∷ cs) (suc b) lt = inr (has_at cs b (omega arith))
 
 module _ (variables : ℕ) (cs : List Lits) (blocks k : ℕ) (held : List (Option Lits)) (loading : IsLoading cs blocks k held)
     (over : AreClausesOver variables cs) (few : k ≤ length cs) where

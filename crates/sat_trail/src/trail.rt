@@ -88,21 +88,22 @@ impl Trail {
         ensures opened { IfOk result (λ t.
             IsOpened set.now.variables (take count set.now.clauses) extra_words extra_blocks t) }
     {
-        let blocks = count.checked_add(extra_blocks).ok_or(NoMemory)?;
-        let links = blocks.checked_mul(2).ok_or(NoMemory)?;
-        let words = literals_in(set, count)?
-            .checked_add(extra_words)
-            .ok_or(NoMemory)?;
+        let blocks = sum(count, extra_blocks)?;
+        let links = sum(blocks, blocks)?;
+        let words = sum(literals_in(set, count)?, extra_words)?;
+        let variables = set.variables();
+        let values = Values::new(alloc, variables)?;
+        let stages = Vec::with_capacity(alloc, variables as usize)?;
+        let mut watches = Watches::new(alloc, variables, links)?;
         let mut region = Region::new(alloc, words, blocks)?;
-        let mut watches = Watches::new(alloc, set.variables(), links)?;
         load(set, count, &mut region, &mut watches);
         Ok(Trail {
             originals: count,
             region,
             watches,
-            values: Values::new(alloc, set.variables())?,
+            values,
             done: 0,
-            stages: Vec::with_capacity(alloc, set.variables() as usize)?,
+            stages,
             present: 0,
         })
     }
@@ -287,6 +288,17 @@ impl Trail {
         self.watches.release(c - 1);
         self.region.free(Block::from_name(c - 1));
     }
+}
+
+// The sum, if 32 bits can hold it.
+fn sum(a: u32, b: u32) -> Result<u32, NoMemory>
+    ensures sum { IfOk result (λ n. n ≡ a + b) }
+    ensures small { IfOk result (λ n. n < 2 ^ 32) }
+{
+    if a > u32::MAX - b {
+        return Err(NoMemory);
+    }
+    Ok(a + b)
 }
 
 // How many literals the first `count` clauses have together, if 32 bits can count them.

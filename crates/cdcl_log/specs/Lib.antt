@@ -1,3 +1,2 @@
-pub mod Analyses
 pub mod Solving
 pub mod Ends

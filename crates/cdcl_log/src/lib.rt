@@ -4,11 +4,10 @@
 //! conflict, it derives a clause that rules it out, with its chain, and goes on; so in the end either
 //! each variable has a value, or the log has the empty clause, or the words allowed are spent.
 //!
-//! `specs/Analyses` says what a conflict teaches, `specs/Solving` what the search keeps, and `specs/Ends`
-//! how it ends.
+//! `specs/Solving` says what the search keeps, and `specs/Ends` how it ends. What a conflict teaches is
+//! the crate `conflict_analysis`.
 #![tactic(auto)]
 
-mod analysis;
 mod end;
 mod restarts;
 mod solver;

@@ -1,16 +1,14 @@
-ghost use Rattle.std.specs.Prelude.{◌≡◌, ◌≢◌, ◌⊎◌, ℕ, ◌+◌, ◌<◌, ◌≤◌, ◌↔◌, ◌++◌, [], length, vec_capacity, get_or, true, false, IfOk, IfErr, IfSome, IfNone, IsTrue, Some};
-ghost use Rattle.clause_defs.specs.Literals.{Literal, negation};
-ghost use Rattle.clause_defs.specs.Clauses.{Lits, Has, IsOrdered};
-ghost use Rattle.log_defs.specs.Logs.{Words, IsIndexOf, Extends, HasDerived, clause_of_log};
-ghost use Rattle.trail_defs.specs.Assignments.{IsConflict, IsFree};
+ghost use Rattle.std.specs.Prelude.{◌≡◌, ℕ, true, ◌+◌, ◌<◌, ◌≤◌, [], length, vec_capacity, Some, IfOk, IfErr, IfSome, IfNone};
+ghost use Rattle.clause_defs.specs.Clauses.{Lits, Has};
+ghost use Rattle.log_defs.specs.Logs.{Words, Extends};
+ghost use Rattle.trail_defs.specs.Assignments.{IsConflict, IsSatisfied, IsFree};
 ghost use Rattle.trail_defs.specs.Trails.{clause_at, HasSameClauses};
-ghost use Rattle.cdcl_log.specs.Analyses.{Knows, IsLesson, IsAsserting};
 ghost use Rattle.cdcl_log.specs.Solving.{IsSolving, IsSettledBelow};
-ghost use Rattle.cdcl_log.specs.Ends.{SolveEnds, IsTotal, IsPoint};
+ghost use Rattle.cdcl_log.specs.Ends.{SolveEnds, IsTotal};
 
-use crate::analysis::{begin, bump, second_level, to_few, to_one};
 use crate::end::CdclEnd;
 use crate::restarts::Restarts;
+use conflict_analysis::{analyze, refute, second_level};
 use conflict_chain::ConflictChain;
 use decision_order::DecisionOrder;
 use pch_base::{Lit, NoMemory};
@@ -113,14 +111,17 @@ impl Solver {
         ensures indices { self.new.indices ≡ self.old.indices }
         ensures conflict { IfSome result (λ k. (c : Lits)
             × (clause_at self.new.trail.clauses k ≡ Some c) × IsConflict self.new.trail.lits c) }
+        ensures total { IfNone result (IsTotal self.new.trail) }
+        ensures satisfied { IfNone result ((k : ℕ) (c : Lits)
+            → clause_at self.new.trail.clauses k ≡ Some c → IsSatisfied self.new.trail.lits c) }
     {
-        loop {
-            if let Some(number) = self.trail.propagate() {
-                return Some(number);
-            }
+        let mut conflict = self.trail.propagate();
+        while conflict.is_none() {
             let l = self.choose()?;
             self.trail.assign(l);
+            conflict = self.trail.propagate();
         }
+        conflict
     }
 
     // A literal of the variable without a value that has the greatest activity, if one is left.
@@ -145,29 +146,69 @@ impl Solver {
     }
 
     // Derives what a clause in conflict teaches, and goes back to where that clause asks for a value.
-    fn learn_from(&mut self, number: u32, log: &mut Log) -> Option<CdclEnd> {
+    fn learn_from(&mut self, number: u32, log: &mut Log) -> Option<CdclEnd>
+        requires solving { IsSolving log.old self.old }
+        requires conflict { (c : Lits)
+            × (clause_at self.old.trail.clauses number ≡ Some c) × IsConflict self.old.trail.lits c }
+        ensures log { Extends log.old log.new }
+        ensures limit { Words log.new.derived ≤ self.old.limit }
+        ensures same_limit { self.new.limit ≡ self.old.limit }
+        ensures more { IfNone result (Words log.old.derived < Words log.new.derived) }
+        ensures solving { IfNone result (IsSolving log.new self.new) }
+        ensures end { IfSome result (λ end. SolveEnds log.new self.new end) }
+    {
+        let index = self.indices[number as usize];
         let present = self.trail.present();
-        let level = present.max(1);
-        begin(&self.trail, &self.indices, log, number, level, &mut self.chain);
-        let from = if present > 0 {
-            to_one(&self.trail, &self.indices, log, &mut self.chain)
-        } else {
-            self.trail.len()
-        };
-        to_few(&self.trail, &self.indices, log, from, level, &mut self.chain);
-        self.chain.list(&mut self.lits);
-        bump(log, self.chain.antecedents(), &mut self.order);
+        if present == 0 {
+            return Some(self.conclude(index, log));
+        }
+        analyze(
+            log,
+            present,
+            self.trail.literals(),
+            self.trail.levels(),
+            self.trail.reasons(),
+            &self.indices,
+            index,
+            &mut self.chain,
+            &mut self.lits,
+        );
+        self.bump(log);
         match self.derive(log) {
             Ok(index) => {
-                if self.lits.is_empty() {
-                    return Some(CdclEnd::Empty { index });
-                }
-                self.back_to(second_level(&self.trail, &self.lits));
+                let second = second_level(self.trail.levels(), present, &self.lits);
+                self.back_to(second);
                 self.put(index);
                 None
             }
             Err(end) => Some(end),
         }
+    }
+
+    // Derives the empty clause from the clause with this index, which is in conflict on level 0.
+    fn conclude(&mut self, index: u32, log: &mut Log) -> CdclEnd {
+        refute(
+            log,
+            self.trail.literals(),
+            self.trail.levels(),
+            self.trail.reasons(),
+            &self.indices,
+            index,
+            &mut self.chain,
+        );
+        self.lits.clear();
+        match self.derive(log) {
+            Ok(index) => CdclEnd::Empty { index },
+            Err(end) => end,
+        }
+    }
+
+    // The variables of the clauses that the last conflict resolved met it.
+    fn bump(&mut self, log: &Log) {
+        for &index in self.chain.antecedents() {
+            bump_all(log.clause(index), &mut self.order);
+        }
+        self.order.step();
     }
 
     // Derives the clause that the last conflict taught, if its words are within the limit.
@@ -197,6 +238,13 @@ impl Solver {
         if let Ok(number) = self.trail.learn(&self.lits) {
             self.indices[number as usize] = index;
         }
+    }
+}
+
+// These variables met a conflict.
+fn bump_all(clause: &[Lit], order: &mut DecisionOrder) {
+    for l in clause {
+        order.bump(l.variable());
     }
 }
 

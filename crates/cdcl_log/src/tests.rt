@@ -21,15 +21,14 @@ fn a_search_ends(rt: HostRuntime) -> Result<(), Fail> {
     let four = [[1, 2], [-1, 2], [1, -2], [-1, -2]];
     let mut log = log_of(alloc, &four)?;
     let mut solver = Solver::open(alloc, &log, 100)?;
-    let end = solver.solve(&mut log);
-    println!(rt; "{end:?} {}", log.used())?;
+    assert!(rt; matches!(solver.solve(&mut log), CdclEnd::Empty { .. }));
     let mut log = log_of(alloc, &four)?;
     let mut solver = Solver::open(alloc, &log, 3)?;
-    let end = solver.solve(&mut log);
-    println!(rt; "{end:?} {}", log.used())?;
+    assert!(rt; matches!(solver.solve(&mut log), CdclEnd::Spent { used: 0, .. }));
     let mut log = log_of(alloc, &[[1, 2], [-1, -1]])?;
     let mut solver = Solver::open(alloc, &log, 100)?;
-    let end = solver.solve(&mut log);
-    println!(rt; "{end:?} {} {} {}", log.used(), solver.value(1), solver.value(2))?;
+    assert_eq!(rt; solver.solve(&mut log), CdclEnd::Point);
+    assert!(rt; !solver.value(1));
+    assert!(rt; solver.value(2));
     Ok(())
 }

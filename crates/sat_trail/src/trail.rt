@@ -211,6 +211,15 @@ impl Trail {
         &self.values.levels
     }
 
+    /// For each variable, by its number, the number of the clause that implied its literal, or 0.
+    pub fn reasons(&self) -> &[u32]
+        ensures reasons { result.now ≡ self.now.reasons }
+        ensures size { self.now.variables < length result.now }
+        ensures known { IsTrail self.now }
+    {
+        &self.values.reasons
+    }
+
     /// The present level: how many levels are open.
     pub fn present(&self) -> u32
         ensures present { result ≡ self.now.present }

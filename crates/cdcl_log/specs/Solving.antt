@@ -1,12 +1,11 @@
 -- A search by clause learning that writes its proof into a log.
-use Rattle.std.specs.Prelude.{◌≡◌, ◌≢◌, ℕ, ◌+◌, ◌<◌, ◌≤◌, List, [], length, take, get_or, Some, None}
-use Rattle.clause_defs.specs.Literals.{Literal}
-use Rattle.clause_defs.specs.Clauses.{Lits, Has}
+use Rattle.std.specs.Prelude.{◌≡◌, ◌≢◌, ℕ, ◌+◌, ◌<◌, ◌≤◌, List, [], length, get_or, Some, None}
+use Rattle.clause_defs.specs.Clauses.{Lits}
 use Rattle.log_defs.specs.Logs.{LogValue, Words, IsIndexOf, clause_of_log}
 use Rattle.log_defs.specs.Deriving.{IsNew}
 use Rattle.pch_region.specs.Blocks.{words_of, blocks_of}
-use Rattle.trail_defs.specs.Assignments.{IsAt, IsSettled}
-use Rattle.trail_defs.specs.Trails.{Assigned, clause_at, level_of}
+use Rattle.trail_defs.specs.Trails.{Assigned, clause_at}
+use Rattle.settled_levels.specs.Levels.{IsSettledBelow}
 
 -- the words that may be derived, the trail, and by the numbers of the trail's clauses their indices in the log
 pub record Solving : Type 0 where
@@ -19,20 +18,6 @@ pub record Knows (log : LogValue) (t : Assigned) (indices : List ℕ) : Type 0 w
   pub over : t.variables ≡ log.originals.variables
   pub size : length t.clauses < length indices
   pub known : (k : ℕ) (c : Lits) → clause_at t.clauses k ≡ Some c → IsIndexOf log (get_or indices k 0) × (clause_of_log log (get_or indices k 0) ≡ c)
-
--- the first n literals of the trail are those of the levels up to b
-pub record IsFront (t : Assigned) (b n : ℕ) : Type 0 where
-  pub within : n ≤ length t.lits
-  pub left : (l : Literal) → Has (take n t.lits) l → level_of t l ≤ b
-  pub gone : (i : ℕ) (l : Literal) → IsAt t.lits i l → n ≤ i → b < level_of t l
-
--- every live clause has a true literal, or two literals without a value, under the first n literals
-abbrev pub IsSettledAt : Assigned → ℕ → Type 0
-IsSettledAt t n = (k : ℕ) (c : Lits) → clause_at t.clauses k ≡ Some c → IsSettled (take n t.lits) c
-
--- The fact that the search keeps: each level below the present one was left with every live clause settled.
-abbrev pub IsSettledBelow : Assigned → Type 0
-IsSettledBelow t = (b n : ℕ) → b < t.present → IsFront t b n → IsSettledAt t n
 
 -- The originals are live under their numbers; every derived clause is live; there is room for what the limit
 -- leaves; and no derived clause is empty.

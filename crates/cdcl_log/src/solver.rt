@@ -3,7 +3,8 @@ ghost use Rattle.clause_defs.specs.Clauses.{Lits, Has};
 ghost use Rattle.log_defs.specs.Logs.{Words, Extends};
 ghost use Rattle.trail_defs.specs.Assignments.{IsConflict, IsSatisfied, IsFree};
 ghost use Rattle.trail_defs.specs.Trails.{clause_at, HasSameClauses};
-ghost use Rattle.cdcl_log.specs.Solving.{IsSolving, IsSettledBelow};
+ghost use Rattle.settled_levels.specs.Levels.{IsSettledBelow};
+ghost use Rattle.cdcl_log.specs.Solving.{IsSolving};
 ghost use Rattle.cdcl_log.specs.Ends.{SolveEnds, IsTotal};
 
 use crate::end::CdclEnd;

@@ -1,16 +1,15 @@
 -- What keeps the levels settled.
-use Rattle.std.proofs.Common.{◌≡◌, ◌≢◌, ℕ, zero, suc, ◌+◌, ◌<◌, ◌≤◌, ◌⊎◌, inl, inr, List, [], ◌∷◌, ◌++◌, length, take, get_or, set, Option, Some, None, refl, sym, ◌∙◌, ap, subst, arith, length-append, length-take}
-use Rattle.std.proofs.lemmas.Bool.{cases_lt, cases_eq}
-use Rattle.std.proofs.lemmas.List.{take-take, take-append-le}
+use Rattle.std.proofs.Common.{◌≡◌, ◌≢◌, ℕ, ◌+◌, ◌<◌, ◌≤◌, inl, inr, take, Some, sym, ◌∙◌, arith}
+use Rattle.std.proofs.lemmas.Bool.{cases_lt}
 use Rattle.clause_defs.specs.Literals.{Literal, negation}
 use Rattle.clause_defs.specs.Clauses.{Lits, Has}
-use Rattle.clause_laws.proofs.LiteralLemmas.{literal_cases, negation-negation}
+use Rattle.clause_laws.proofs.LiteralLemmas.{literal_cases}
 use Rattle.chain_check.proofs.ClauseLists.{Has-take}
-use Rattle.trail_defs.specs.Assignments.{IsAt, IsFree, IsConflict, IsSettled}
-use Rattle.trail_defs.specs.Trails.{Assigned, clause_at, level_of, IsTrail, IsUpTo, IsGrown, HasSameClauses}
+use Rattle.trail_defs.specs.Assignments.{IsFree, IsConflict, IsSettled}
+use Rattle.trail_defs.specs.Trails.{Assigned, clause_at, level_of, IsTrail}
 use Rattle.conflict_chain.proofs.StepLemmas.{consistent}
 use Rattle.conflict_analysis.proofs.EndLemmas.{has_place, at_take}
-use Rattle.settled_levels.specs.Levels.{IsFront, IsOpenBelow, IsSettledBelow, IsTaught}
+use Rattle.settled_levels.specs.Levels.{IsFront, IsSettledBelow, IsTaught}
 
 module _ (t : Assigned) (known : IsTrail t) (c : Lits) (u : Literal) (b : ℕ) (taught : IsTaught t c u b) where
   -- its other literals have their values up to level b

@@ -194,32 +194,6 @@ impl Trail {
         self.values.assignment.get(i as usize)
     }
 
-    /// The literals that have been given a value and are true, in their order.
-    pub fn literals(&self) -> &[Lit]
-        ensures literals { result.now ≡ self.now.lits }
-        ensures known { IsTrail self.now }
-    {
-        self.values.assignment.literals()
-    }
-
-    /// The levels of the variables, by their numbers.
-    pub fn levels(&self) -> &[u32]
-        ensures levels { result.now ≡ self.now.levels }
-        ensures size { self.now.variables < length result.now }
-        ensures known { IsTrail self.now }
-    {
-        &self.values.levels
-    }
-
-    /// For each variable, by its number, the number of the clause that implied its literal, or 0.
-    pub fn reasons(&self) -> &[u32]
-        ensures reasons { result.now ≡ self.now.reasons }
-        ensures size { self.now.variables < length result.now }
-        ensures known { IsTrail self.now }
-    {
-        &self.values.reasons
-    }
-
     /// The present level: how many levels are open.
     pub fn present(&self) -> u32
         ensures present { result ≡ self.now.present }

@@ -66,10 +66,10 @@ pub walks_are : (next heads : List ℕ) (lists : List (List ℕ)) → IsLinkedBy
 walks_are next heads lists linked =
     ext_get_or [] (walks next heads) lists (length-map heads (walk (length next) next) ∙ sym linked.count)
     (λ k lt.
-      let inside : k < length heads = let a = length-map heads (walk (length next) next) in omega arith in
-      let c = linked.chains k in
-      get_or-map (walk (length next) next) heads k 0 [] inside
-      ∙ walk_is (length next) next (get_or heads k 0) (list_at lists k) c (chain_length next (get_or heads k 0) (list_at lists k) c))
+    let inside : k < length heads = let a = length-map heads (walk (length next) next) in omega arith in
+    let c = linked.chains k in
+    get_or-map (walk (length next) next) heads k 0 [] inside
+    ∙ walk_is (length next) next (get_or heads k 0) (list_at lists k) c (chain_length next (get_or heads k 0) (list_at lists k) c))
 
 -- a list whose head isn't 0 begins with the head's number
 pub record Begins (next : List ℕ) (w : ℕ) (ws : List ℕ) : Type 0 where
@@ -104,6 +104,9 @@ chain_set next h (v ∷ vs) w x c out =
     let ne : v ≢ w = λ e. out (inl e) in
     let len = length-set next w x in
     let inside : v < length next = c.1 in
-    let same = get_or-set_other next w v x 0 ne in
-    (c.0, omega arith, c.2,
-     subst (λ k. Chain (set next w x) k vs) (sym same) (chain_set next (get_or next v 0) vs w x c.3 (λ h. out (inr h))))
+    let same = get_or-set_other next w v x 0 ne in (
+      c.0,
+      omega arith,
+      c.2,
+      subst (λ k. Chain (set next w x) k vs) (sym same) (chain_set next (get_or next v 0) vs w x c.3 (λ h. out (inr h))),
+    )

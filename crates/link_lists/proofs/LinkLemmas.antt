@@ -135,8 +135,12 @@ module _ (next heads : List ℕ) (lists : List (List ℕ)) (linked : IsLinkedBy 
     ]
 
     begin_there : Chain next2 (w + 1) (w ∷ list_at lists l)
-    begin_there = (refl, let a = length-set next w h in omega arith, out l,
-      subst (λ h. Chain next2 h (list_at lists l)) (sym (get_or-set_same next w h 0 inside ∙ h_is)) (stays l))
+    begin_there = (
+      refl,
+      let a = length-set next w h in omega arith,
+      out l,
+      subst (λ h. Chain next2 h (list_at lists l)) (sym (get_or-set_same next w h 0 inside ∙ h_is)) (stays l),
+    )
 
     more_linked : IsLinkedBy next2 heads2 more
     more_linked = record {
@@ -216,7 +220,7 @@ module _ (next heads : List ℕ) (lists : List (List ℕ)) (linked : IsLinkedBy 
     turned_linked : IsLinkedBy next turned_heads turned_lists
     turned_linked = record {
       count = length-set between l [] ∙ length-set lists m (list_at lists l) ∙ linked.count
-        ∙ sym (length-set (set heads m h) l 0 ∙ length-set heads m h);
+          ∙ sym (length-set (set heads m h) l 0 ∙ length-set heads m h);
       chains = λ k. elim (cases_eq k l) [
         | inl e ↦ subst (λ j. Chain next (get_or turned_heads j 0) (list_at turned_lists j)) (sym e)
             (subst₂ (λ h ws. Chain next h ws) (sym head_l) (sym at_l) refl)

@@ -28,8 +28,8 @@ impl Model for Links {
     } };
 
     ghost invariant = { λ l.
-      IsLinkedBy l.next.items l.heads.items (walks l.next.items l.heads.items)
-      × (length l.next.items < 2 ^ 32) };
+        IsLinkedBy l.next.items l.heads.items (walks l.next.items l.heads.items)
+        × (length l.next.items < 2 ^ 32) };
 }
 
 impl Links {
@@ -47,14 +47,10 @@ impl Links {
     pub fn pop(&mut self, list: u32) -> Option<u32>
         requires { list < length self.old.lists }
         ensures size { self.new.size ≡ self.old.size }
-        ensures first {
-            IfSome result (λ w.
-                list_at self.old.lists list ≡ w ∷ list_at self.new.lists list)
-        }
-        ensures rest {
-            IfSome result (λ _.
-                self.new.lists ≡ set self.old.lists list (list_at self.new.lists list))
-        }
+        ensures first { IfSome result (λ w.
+            list_at self.old.lists list ≡ w ∷ list_at self.new.lists list) }
+        ensures rest { IfSome result (λ _.
+            self.new.lists ≡ set self.old.lists list (list_at self.new.lists list)) }
         ensures out { IfSome result (λ w. (k : ℕ) → Has (list_at self.new.lists k) w → ⊥) }
         ensures within { IfSome result (λ w. w < self.old.size) }
         ensures empty { IfNone result (list_at self.old.lists list ≡ []) }
@@ -74,9 +70,7 @@ impl Links {
         requires within { w < self.old.size }
         requires out { (k : ℕ) → Has (list_at self.old.lists k) w → ⊥ }
         ensures size { self.new.size ≡ self.old.size }
-        ensures lists {
-            self.new.lists ≡ set self.old.lists list (w ∷ list_at self.old.lists list)
-        }
+        ensures lists { self.new.lists ≡ set self.old.lists list (w ∷ list_at self.old.lists list) }
     {
         self.next[w as usize] = self.heads[list as usize];
         self.heads[list as usize] = w + 1;
@@ -88,10 +82,8 @@ impl Links {
         requires to { to < length self.old.lists }
         requires empty { list_at self.old.lists to ≡ [] }
         ensures size { self.new.size ≡ self.old.size }
-        ensures lists {
-            self.new.lists
-                ≡ set (set self.old.lists to (list_at self.old.lists from)) from []
-        }
+        ensures lists { self.new.lists
+            ≡ set (set self.old.lists to (list_at self.old.lists from)) from [] }
     {
         self.heads[to as usize] = self.heads[from as usize];
         self.heads[from as usize] = 0;

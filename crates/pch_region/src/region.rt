@@ -102,10 +102,8 @@ impl Region {
     pub fn put(&mut self, lits: &[Lit]) -> Result<Block, Full>
         ensures fresh { IfOk result (λ b. held_at self.old.held b.name ≡ None) }
         ensures name { IfOk result (λ b. b.name ≡ next_name self.old.unused) }
-        ensures unused {
-            IfOk result (λ _.
-                self.new.unused ≡ take (length self.old.unused - 1) self.old.unused)
-        }
+        ensures unused { IfOk result (λ _.
+            self.new.unused ≡ take (length self.old.unused - 1) self.old.unused) }
         ensures in_range { IfOk result (λ b. b.name < length self.old.held) }
         ensures put { IfOk result (λ b. self.new.held ≡ set self.old.held b.name (Some lits.now)) }
         ensures words { self.new.words ≡ self.old.words }

@@ -16,7 +16,7 @@ unfolding digest_bytes
 length-digest_bytes h = refl
 
 -- the same of the digest of a message
-length-sha256 : (m : List ℕ) → length (sha256 m) ≡ 32
+pub length-sha256 : (m : List ℕ) → length (sha256 m) ≡ 32
 unfolding sha256
 length-sha256 m = length-digest_bytes (final_hash initial_hash_256 m)
 

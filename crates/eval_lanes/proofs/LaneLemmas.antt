@@ -61,6 +61,7 @@ pub pad_lane : (inputs : List ℕ) (j s : ℕ) → bit_at (pad_bit inputs s) j �
 pad_lane inputs j zero = bit_at-zero j
 pad_lane inputs j (suc p) = sym (lane_at inputs j p)
 
+-- what the sum chooses of two bits, case by case
 chosen_sum : (even odd pin : ℕ) → even < 2 → odd < 2 → pin < 2 → (even + min pin ((even + odd) % 2)) % 2 ≡ chosen pin odd even
 chosen_sum even odd zero e o p = omega arith
 chosen_sum even odd (suc zero) e o p = omega arith

@@ -67,21 +67,25 @@ last_is_bit table count m pin_bits bit all some h =
     ((let e : 0 * 2 ^ m + word_of (take m pin_bits) ≡ word_of (take m pin_bits) = omega arith in e)
     ∙ ap word_of (take_all m pin_bits (omega arith)))
 
+-- the pair 1, 0 gives the negation of the pin, which is bit b of 1
 negated : (b on off pin : ℕ) → pin ≡ b → b < 2 → on ≡ 1 → off ≡ 0 → chosen pin off on ≡ bit_at 1 b
 negated zero on off pin is lt one none = ap (λ p. chosen p off on) is ∙ one
 negated (suc zero) on off pin is lt one none = ap (λ p. chosen p off on) is ∙ none
 negated (suc (suc b)) on off pin is lt one none = absurd (omega arith)
 
+-- the pair 0, 1 gives the pin itself, which is bit b of 2
 second_bit : (b : ℕ) → b < 2 → b ≡ bit_at 2 b
 second_bit zero lt = refl
 second_bit (suc zero) lt = refl
 second_bit (suc (suc b)) lt = absurd (omega arith)
 
+-- the pair 1, 1 gives 1, which is bit b of 3
 both_bits : (b : ℕ) → b < 2 → 1 ≡ bit_at 3 b
 both_bits zero lt = refl
 both_bits (suc zero) lt = refl
 both_bits (suc (suc b)) lt = absurd (omega arith)
 
+-- each of the four words has in a lane what its pair gives at the pin
 choice_case : (word : ℕ → ℕ) (pin j : ℕ) → word 0 ≡ 0 → word 1 ≡ mux 0 18446744073709551615 pin → word 2 ≡ pin
     → word 3 ≡ 18446744073709551615 → (b : ℕ) → bit_at pin j ≡ b → b < 2 → bit_at 18446744073709551615 j ≡ 1
     → (q : ℕ) → q < 4 → bit_at (word q) j ≡ bit_at q b

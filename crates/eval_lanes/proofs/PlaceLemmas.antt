@@ -24,6 +24,7 @@ pub pad_place : (g : GeometryValue) (x cells : List ℕ) (p : ℕ) → p ≤ g.i
 pad_place g x cells zero le = refl
 pad_place g x cells (suc p) le = rw (lt-ltb p g.input_pads (omega arith)) refl
 
+-- the places behind the pads are those of the cells
 behind_pads : (g : GeometryValue) (x cells : List ℕ) (n : ℕ) → place_bit g x cells (suc (g.input_pads + n)) ≡ get_or cells n 0
 behind_pads g x cells n =
     let past : nat_lt (g.input_pads + n) g.input_pads ≡ false = le-ltb (g.input_pads + n) g.input_pads (omega arith) in
@@ -66,12 +67,14 @@ names_first config tracks words count off is long within done =
           ∙ ap (pad_bit x) (listed_at g.tracks (first_word config) words t is lt)) w wired;
     }
 
+-- to choose a place and read the bit there is to choose a bit
 switched_named : (f : ℕ → ℕ) (before word : ℕ) (places bits : ℕ → ℕ) → f 0 ≡ 0 → ((row : ℕ) → f (places row) ≡ bits row)
     → f (switched_bit before places word) ≡ switched_bit (f before) bits word
 switched_named f before zero places bits off h = off
 switched_named f before (suc zero) places bits off h = refl
 switched_named f before (suc (suc row)) places bits off h = h row
 
+-- the place that is chosen is below the bound
 switched_below : (rows first before bound word : ℕ) → before < bound → first + rows ≤ bound → word ≤ rows + 1
     → switched_bit before (λ row. first + row) word < bound
 switched_below rows first before bound zero lt fits le = omega arith
@@ -132,6 +135,7 @@ seen_wired config inputs words tracks c count j word w names le have j_lt wired 
     ∙ sym (named_at g (inputs j) w.cells tracks word)
     ∙ ap (λ l. get_or l word 0) (names.bits (inputs j) w wired)
 
+-- two functions with the same values give the same list
 same_map : (f g : ℕ → ℕ) → ((i : ℕ) → f i ≡ g i) → (xs : List ℕ) → map f xs ≡ map g xs
 same_map f g h [] = refl
 same_map f g h (x ∷ xs) = let head : f x ≡ g x = h x in let tail : map f xs ≡ map g xs = same_map f g h xs in cc

@@ -21,17 +21,20 @@ use Rattle.journal_defs.proofs.JournalLemmas.{spec-own, spec-other, config-own, 
 
 -- ---- places of two lists
 
+-- what stands in the first of two lists stands there in both together
 slice_get-left : {X : Type 0} (xs ys : List X) (i : ℕ) → i < length xs → slice_get (xs ++ ys) i ≡ slice_get xs i
 slice_get-left [] ys i lt = absurd (omega arith)
 slice_get-left (x ∷ xs) ys zero lt = refl
 slice_get-left (x ∷ xs) ys (suc i) lt = slice_get-left xs ys i (omega arith)
 
+-- one more element stands behind the others
 slice_get-seam : {X : Type 0} (xs : List X) (y : X) → slice_get (xs ++ y ∷ []) (length xs) ≡ Some y
 slice_get-seam [] y = refl
 slice_get-seam (x ∷ xs) y = slice_get-seam xs y
 
 -- ---- one more entry
 
+-- a journal without entries is legal
 pub legal-nothing : (g : GeometryValue) (slots limit : ℕ) → Legal g slots limit []
 legal-nothing g slots limit = record {
   short = omega arith;
@@ -57,6 +60,7 @@ follows-appended g slots limit h e legal next p d found =
           subst (λ d. CanFollow g (take p (h ++ e ∷ [])) d) last (subst (λ before. CanFollow g before e) before next)
     ]
 
+-- a legal journal stays legal with an entry that may follow it, where there is room
 pub legal-appended : (g : GeometryValue) (slots limit : ℕ) (h : List EntryValue) (e : EntryValue)
     → Legal g slots limit h → length h < limit → e.slot < slots → CanFollow g h e → Legal g slots limit (h ++ e ∷ [])
 legal-appended g slots limit h e legal room slot next = record {
@@ -69,6 +73,7 @@ legal-appended g slots limit h e legal room slot next = record {
 
 -- ---- beginnings
 
+-- the beginning of a legal journal is legal
 pub legal-before : (g : GeometryValue) (slots limit : ℕ) (h later : List EntryValue)
     → Legal g slots limit (h ++ later) → Legal g slots limit h
 legal-before g slots limit h later legal = record {
@@ -82,6 +87,7 @@ legal-before g slots limit h later legal = record {
       (legal.follows p e (slice_get-left h later p lt ∙ found));
 }
 
+-- so are its first n entries
 pub legal-take : (g : GeometryValue) (slots limit n : ℕ) (h : List EntryValue)
     → Legal g slots limit h → Legal g slots limit (take n h)
 legal-take g slots limit n h legal =
@@ -113,6 +119,7 @@ equal-own g h e (installed net other) same next config runs =
 equal-own g h e evicted same next config runs =
     absurd (none-some config (sym (config-own h e ∙ ap config_in same) ∙ runs))
 
+-- an entry leaves what runs in another slot
 equal-other : (g : GeometryValue) (slot : ℕ) (h : List EntryValue) (e : EntryValue) → e.slot ≢ slot
     → RunsEqual g slot h → RunsEqual g slot (h ++ e ∷ [])
 equal-other g slot h e other before config runs =
@@ -125,6 +132,7 @@ equal-other g slot h e other before config runs =
       },
     )
 
+-- so what runs in any slot stays equal to its agreed network
 equal-snoc : (g : GeometryValue) (slot : ℕ) (h : List EntryValue) (e : EntryValue) → CanFollow g h e
     → RunsEqual g slot h → RunsEqual g slot (h ++ e ∷ [])
 equal-snoc g slot h e next before =
@@ -133,6 +141,7 @@ equal-snoc g slot h e next before =
       | inr other ↦ equal-other g slot h e other before
     ]
 
+-- and after the first n entries of a legal journal it is so
 equal-take : (g : GeometryValue) (slots limit slot : ℕ) (h : List EntryValue) → Legal g slots limit h
     → (n : ℕ) → RunsEqual g slot (take n h)
 equal-take g slots limit slot h legal zero = λ config runs. absurd (none-some config runs)
@@ -158,6 +167,7 @@ running-equal g slots limit slot h config legal =
 
 -- ---- outputs
 
+-- so what a slot answers are the outputs of its agreed network
 pub outputs-agreed : (g : GeometryValue) (slots limit slot cell bit : ℕ) (h : List EntryValue) (x y : List ℕ)
     (net : Network) → Legal g slots limit h → GivesOut h slot x cell y bit → spec_at h slot ≡ Some net
     → IsAcyclic net → AreBits x → SpecOut net x y

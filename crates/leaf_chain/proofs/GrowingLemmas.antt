@@ -23,19 +23,24 @@ evaluated_empty f values = record {
 
 -- ---- what stands where, with one more
 
+-- the earlier elements stay
 before : (xs : List ℕ) (x i : ℕ) → i < length xs → get_or (xs ++ x ∷ []) i 0 ≡ get_or xs i 0
 before xs x i lt = get_or_append_left xs (x ∷ []) 0 i lt
 
+-- the new one stands behind them
 last : (xs : List ℕ) (x i : ℕ) → i ≡ length xs → get_or (xs ++ x ∷ []) i 0 ≡ x
 last xs x i e = ap (λ n. get_or (xs ++ x ∷ []) n 0) e ∙ get_or-append_seam xs x [] 0
 
 module _ (f : List Lits) (e : Evaluated) (v : ℕ) (value : Bool) (evaluated : IsEvaluated f e) (without : IsWithout e v) where
+  -- one variable more has a value
   longer : length (e.order ++ v ∷ []) ≡ length e.order + 1
   longer = length-append e.order (v ∷ [])
 
+  -- there are as many places as before
   same_values : length (set e.values v value) ≡ length e.values
   same_values = length-set e.values v value
 
+  -- the variables are within the places
   within_after : (u : ℕ) → Has (e.order ++ v ∷ []) u → (1 ≤ u) × (u < length (set e.values v value))
   within_after u h = elim ((Has-snoc e.order v u).0 h) [
     | inl old ↦ let range = evaluated.within u old in (range.0, let high = range.1 in omega (arith, same_values))
@@ -46,6 +51,7 @@ module _ (f : List Lits) (e : Evaluated) (v : ℕ) (value : Bool) (evaluated : I
   other : (i : ℕ) → i < length e.order → variable_at e.order i ≢ v
   other i lt same = without.fresh (subst (Has e.order) same (Has-get_or e.order i 0 lt))
 
+  -- and differ from each other
   distinct_after : (i j : ℕ) → i < j → j < length (e.order ++ v ∷ []) → variable_at (e.order ++ v ∷ []) i ≢ variable_at (e.order ++ v ∷ []) j
   distinct_after i j less lt same =
       let first : i < length e.order = omega (arith, longer) in
@@ -58,9 +64,11 @@ module _ (f : List Lits) (e : Evaluated) (v : ℕ) (value : Bool) (evaluated : I
   value_kept : (u : ℕ) → u ≢ v → value_of (set e.values v value) u ≡ value_of e.values u
   value_kept u ne = get_or-set_other e.values v u value false ne
 
+  -- so do their true literals
   true_kept : (u : ℕ) → u ≢ v → true_literal (set e.values v value) u ≡ true_literal e.values u
   true_kept u ne = ap (λ b. record { variable = u; positive = b }) (value_kept u ne)
 
+  -- and their false ones
   false_kept : (u : ℕ) → u ≢ v → false_literal (set e.values v value) u ≡ false_literal e.values u
   false_kept u ne = ap (λ b. record { variable = u; positive = not b }) (value_kept u ne)
 
@@ -73,9 +81,11 @@ module _ (f : List Lits) (e : Evaluated) (v : ℕ) (value : Bool) (evaluated : I
         (own.0 ∙ sym (false_kept l.variable (λ same. fresh (subst (Has known) same own.1))), own.1);
   }
 
+  -- the new variable isn't among the first ones
   fresh_in_take : (i : ℕ) → Has (take i e.order) v → ⊥
   fresh_in_take i h = without.fresh (Has-take e.order i v h)
 
+  -- the first variables stay
   take_kept : (i : ℕ) → i ≤ length e.order → take i (e.order ++ v ∷ []) ≡ take i e.order
   take_kept i le = take-append-le i e.order (v ∷ []) le
 

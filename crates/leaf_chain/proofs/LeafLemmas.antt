@@ -53,6 +53,7 @@ old_or_last_taken d log index next c i h =
 
 module _ (e : Evaluated) (log : LogValue) (marks : List Bool) (ants : List ℕ) (lits : Lits) (running : IsRunning e log marks ants e.chosen)
     (same : SameSet (marked marks e.values) lits) (few : length lits ≤ e.chosen) where
+  -- the clause has at most as many words as there are variables with values, and four
   leaf_size : words_of (record { lits = lits; antecedents = ants }) ≤ length e.order + 4
   leaf_size = let most = running.few in omega arith
 

@@ -19,6 +19,7 @@ record StandsAt (v : ℕ) (marks values : List Bool) (l : Literal) : Type 0 wher
   mark : get_or marks place false ≡ true
   sign : l.positive ≡ not (get_or values place false)
 
+-- each of them stands at the place of a marked variable
 stands : (v : ℕ) (marks values : List Bool) (l : Literal) → Has (marked_from v marks values) l → StandsAt v marks values l
 stands v [] values l h = absurd h
 stands v (m ∷ ms) [] l h = absurd h
@@ -35,6 +36,7 @@ stands v (false ∷ ms) (b ∷ bs) l h =
     let rest = stands (v + 1) ms bs l h in
     record { place = suc rest.place; variable_is = let e = rest.variable_is in omega arith; mark = rest.mark; sign = rest.sign }
 
+-- the false literal at each marked place is one of them
 marked_there : (v : ℕ) (marks values : List Bool) (k : ℕ) → k < length values → get_or marks k false ≡ true
     → Has (marked_from v marks values) (record { variable = v + k; positive = not (get_or values k false) })
 marked_there v [] values k lt e = absurd (cc)
@@ -48,6 +50,7 @@ marked_there v (false ∷ ms) (b ∷ bs) (suc k) lt e =
     let same : v + 1 + k ≡ v + suc k = omega arith in
     subst (λ n. Has (marked_from (v + 1) ms bs) (record { variable = n; positive = not (get_or bs k false) })) same (marked_there (v + 1) ms bs k (omega arith) e)
 
+-- a literal is its variable and its sign
 literal_is : (l : Literal) (v : ℕ) (b : Bool) → l.variable ≡ v → l.positive ≡ b → l ≡ record { variable = v; positive = b }
 literal_is l v b e s = λ i. record { variable = e i; positive = s i }
 
@@ -78,17 +81,21 @@ Has-marked_of marks values l e m f = subst (Has (marked marks values)) (sym f) (
 
 -- ---- true and false literals
 
+-- two negations cancel out
 not_not : (b : Bool) → not (not b) ≡ b
 not_not true = refl
 not_not false = refl
 
+-- no bit is its own negation
 not_own : (b : Bool) → not b ≢ b
 not_own true e = cc
 not_own false e = cc
 
+-- the negation of the true literal is the false one
 pub negation-true : (values : List Bool) (v : ℕ) → negation (true_literal values v) ≡ false_literal values v
 negation-true values v = refl
 
+-- and the negation of the false literal the true one
 negation-false : (values : List Bool) (v : ℕ) → negation (false_literal values v) ≡ true_literal values v
 negation-false values v = ap (λ b. record { variable = v; positive = b }) (not_not (value_of values v))
 
@@ -114,9 +121,11 @@ module _ (values before after : List Bool) (known : List ℕ) (v : ℕ) (c : Lit
   other_variable : (l : Literal) → Has c l → l ≢ true_literal values v → l.variable ≢ v
   other_variable l h other e = fresh (subst (Has known) e (reason.others l h other).1)
 
+  -- a literal is the true one of v or another one
   literal_or_other : (l : Literal) → (l ≡ true_literal values v) ⊎ (l ≢ true_literal values v)
   literal_or_other l = literal_cases l (true_literal values v)
 
+  -- so the false literal of v alone clashes
   only_pivot : (l : Literal) → Clashes (marked before values) c l → l ≡ false_literal values v
   only_pivot l h =
       let is_false = (marked-Has before values l h.0).1 in
@@ -126,6 +135,7 @@ module _ (values before after : List Bool) (known : List ℕ) (v : ℕ) (c : Lit
         | inr other ↦ absurd (not_both values l.variable l.variable (sym opposite ∙ (reason.others (negation l) h.1 other).0))
       ]
 
+  -- each literal after the step is one of the other literals of both clauses
   kept : (l : Literal) → Has (marked after values) l → (Has (marked before values) l × (l ≢ false_literal values v)) ⊎ (Has c l × (l ≢ negation (false_literal values v)))
   kept l h =
       let own = marked-Has after values l h in
@@ -138,6 +148,7 @@ module _ (values before after : List Bool) (known : List ℕ) (v : ℕ) (c : Lit
             inr (subst (Has c) same new.1, λ e. not_both values v l.variable (sym (e ∙ negation-false values v) ∙ own.1))
       ]
 
+  -- and each of these is one after the step
   made : (l : Literal) → (Has (marked before values) l × (l ≢ false_literal values v)) ⊎ (Has c l × (l ≢ negation (false_literal values v))) → Has (marked after values) l
   made l (inl h) =
       let own = marked-Has before values l h.0 in
@@ -148,6 +159,7 @@ module _ (values before after : List Bool) (known : List ℕ) (v : ℕ) (c : Lit
       Has-marked_of after values l many_after
       ((marks l.variable).1 (inr (l, h.0, refl), other_variable l h.0 other)) (reason.others l h.0 other).0
 
+  -- what is marked after is what is marked before, resolved with c
   pub step_marked : Step (marked before values) c (marked after values)
   step_marked = record {
     pivot = false_literal values v;
@@ -188,6 +200,7 @@ marked_among values marks known c all_false marks_are v m =
 
 -- ---- one mark more, or less
 
+-- with one mark more, that variable is marked too
 pub marked-set : (marks : List Bool) (v u : ℕ) → v < length marks → IsMarked (set marks v true) u ↔ (IsMarked marks u ⊎ (u ≡ v))
 marked-set marks v u lt = elim (cases_eq u v) [
   | inl same ↦ (λ h. inr same, λ h. ap (λ n. get_or (set marks v true) n false) same ∙ get_or-set_same marks v true false lt)
@@ -196,6 +209,7 @@ marked-set marks v u lt = elim (cases_eq u v) [
       (λ h. inl (sym kept ∙ h), λ h. elim h [ inl m ↦ kept ∙ m | inr e ↦ absurd (other e) ])
 ]
 
+-- with one mark less, that variable isn't marked any more
 pub marked-unset : (marks : List Bool) (v u : ℕ) → v < length marks → IsMarked (set marks v false) u ↔ (IsMarked marks u × (u ≢ v))
 marked-unset marks v u lt = elim (cases_eq u v) [
   | inl same ↦ (

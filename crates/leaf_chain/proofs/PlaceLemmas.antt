@@ -51,9 +51,11 @@ fewer xs n some distinct within =
 
 -- ---- one more
 
+-- the earlier numbers stay
 before : (xs : List ℕ) (x i : ℕ) → i < length xs → get_or (xs ++ x ∷ []) i 0 ≡ get_or xs i 0
 before xs x i lt = get_or_append_left xs (x ∷ []) 0 i lt
 
+-- the new one stands behind them
 last : (xs : List ℕ) (x i : ℕ) → i ≡ length xs → get_or (xs ++ x ∷ []) i 0 ≡ x
 last xs x i e = ap (λ n. get_or (xs ++ x ∷ []) n 0) e ∙ get_or-append_seam xs x [] 0
 

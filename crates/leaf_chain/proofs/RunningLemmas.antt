@@ -94,6 +94,7 @@ running_resolved e log before after ants i index evaluated h derived lt there kn
 
 -- ---- the literals of the running clause, one after another
 
+-- the number of a literal is twice its variable, or one more
 code_of : (v : ℕ) (b : Bool) → (2 * v ≤ code (record { variable = v; positive = b })) × (code (record { variable = v; positive = b }) ≤ 2 * v + 1)
 code_of v true = (omega arith, omega arith)
 code_of v false = (omega arith, omega arith)

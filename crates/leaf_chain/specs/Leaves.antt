@@ -41,6 +41,7 @@ pub record IsLeafSpent (e : Evaluated) (before after : LogValue) (used need : �
   pub need_high : need ≤ leaf_words e
   pub over : before.budget < used + need
 
+-- The chain ends so: with the clause that it derived or that was there already, or over the budget.
 abbrev pub LeafEnds : Evaluated → LogValue → Result ℕ LogEnd → LogValue → Type 0
 LeafEnds e before (Ok index) after = IsLeaf e before after index
 LeafEnds e before (Err (Kept index)) after = ⊥

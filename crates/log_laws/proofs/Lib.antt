@@ -1,3 +1,4 @@
 pub mod ChainGrowth
 pub mod LogLemmas
 pub mod TraceOfLemmas
+pub mod LogTraces

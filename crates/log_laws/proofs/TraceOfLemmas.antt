@@ -51,12 +51,12 @@ back (x ∷ xs) ys zero j e = absurd (omega arith)
 back (x ∷ xs) ys (suc k) j e = back xs ys k j (omega arith)
 
 module _ (f : List Lits) (ds : List Derived) where
-  original_there : (k : ℕ) → k < length f → slice_get (trace_of f ds) k ≡ Some (original_entry (k + 1) (get_or f k []))
+  pub original_there : (k : ℕ) → k < length f → slice_get (trace_of f ds) k ≡ Some (original_entry (k + 1) (get_or f k []))
   original_there k lt =
       front (original_entries 1 f) (derived_entries (length f + 1) ds) k (omega (arith, length-original_entries 1 f))
       ∙ at_original 1 f k (k + 1) lt (omega arith)
 
-  derived_there : (k p : ℕ) → k < length ds → p ≡ length f + k → slice_get (trace_of f ds) p ≡ Some (derived_entry (p + 1) (derived_at ds k))
+  pub derived_there : (k p : ℕ) → k < length ds → p ≡ length f + k → slice_get (trace_of f ds) p ≡ Some (derived_entry (p + 1) (derived_at ds k))
   derived_there k p lt e =
       back (original_entries 1 f) (derived_entries (length f + 1) ds) p k (omega (arith, length-original_entries 1 f))
       ∙ at_derived (length f + 1) ds k (p + 1) lt (omega arith)
@@ -69,7 +69,7 @@ module _ (f : List Lits) (ds : List Derived) where
   ]
 
   -- each clause is stated
-  stated-trace_of : (p : ℕ) → p < length f + length ds → stated_at (trace_of f ds) p ≡ Some (clause_with f ds (p + 1))
+  pub stated-trace_of : (p : ℕ) → p < length f + length ds → stated_at (trace_of f ds) p ≡ Some (clause_with f ds (p + 1))
   stated-trace_of p lt = elim (cases_lt p (length f)) [
     | inl first ↦
         ap stated_of (original_there p first)

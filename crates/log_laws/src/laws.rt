@@ -1,9 +1,11 @@
 ghost use Rattle.std.specs.Prelude.{◌≡◌, ℕ, ◌+◌, ◌≤◌, List, [], ◌∷◌, ◌++◌, length};
-ghost use Rattle.clause_defs.specs.Clauses.{Lits, SameSet};
+ghost use Rattle.clause_defs.specs.Clauses.{Lits, Has, SameSet, IsClause};
+ghost use Rattle.clause_defs.specs.Compaction.{AllStated};
 ghost use Rattle.clause_defs.specs.Resolution.{Step, Resolves};
+ghost use Rattle.clause_defs.specs.Traces.{IsTrace};
 ghost use Rattle.clause_defs.specs.Verdicts.{AllRightBefore, VerdictOf};
 ghost use Rattle.clause_defs.specs.declared.verdict.Verdict.{Verdict};
-ghost use Rattle.log_defs.specs.Logs.{Derived, LogOk, LogValue, IsIndexOf, Extends, clause_of_log};
+ghost use Rattle.log_defs.specs.Logs.{Derived, LogOk, LogValue, IsIndexOf, IsLog, Extends, clause_of_log};
 ghost use Rattle.log_defs.specs.LogTraces.{trace_of, EndsWithEmpty};
 
 /// The chain of a list of clauses, step by step: one clause gives itself, and a step more resolves with
@@ -28,4 +30,13 @@ pub fn log_trace_checks()
         → AllRightBefore f (trace_of f ds) w (length (trace_of f ds)) }
     ensures refutes { (f : List Lits) (ds : List Derived) (w : ℕ) → LogOk f ds → EndsWithEmpty f ds
         → VerdictOf f (trace_of f ds) w Verdict.Refutes }
+{}
+
+/// The trace of a log over clauses is a trace, with indices within their limit, and it states the
+/// literals of each clause.
+pub fn log_trace_is_a_trace()
+    ensures is_trace { (l : LogValue) → IsLog l
+        → ((c : Lits) → Has l.originals.clauses c → IsClause c)
+        → IsTrace (trace_of l.originals.clauses l.derived) }
+    ensures stated { (f : List Lits) (ds : List Derived) → AllStated (trace_of f ds) }
 {}

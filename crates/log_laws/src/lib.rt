@@ -6,4 +6,4 @@
 
 mod laws;
 
-pub use laws::{chain_grows, indices_stay, log_trace_checks};
+pub use laws::{chain_grows, indices_stay, log_trace_checks, log_trace_is_a_trace};

@@ -37,6 +37,7 @@ pub word_of-drop : {X : Type 0} (f : X → ℕ) (xs : List X) (i : ℕ) (d : X) 
     → word_of (map f (drop i xs)) ≡ f (get_or xs i d) + 2 * word_of (map f (drop (i + 1) xs))
 word_of-drop f xs i d lt = ap (λ l. word_of (map f l)) (drop_more xs i d lt)
 
+-- a value as a bit is 0 or 1
 bit_of-small : (b : Bool) → bit_of b ≤ 1
 bit_of-small true = omega arith
 bit_of-small false = omega arith
@@ -57,6 +58,7 @@ bit_at-word value (x ∷ xs) (suc j) d lt =
 
 -- ---- the clause that gives a cell its value
 
+-- a member of such a list is the function's value at some place
 pub listed_in : (n : ℕ) (f : ℕ → Literal) (m : Literal) → Has (list_of n f) m → (j : ℕ) × (j < n) × (m ≡ f j)
 listed_in zero f m h = absurd h
 listed_in (suc n) f m h = elim ((Has-snoc (list_of n f) (f n) m).0 h) [
@@ -69,9 +71,11 @@ value_by : (b : Bool) (n : ℕ) → n ≡ bit_of b → b ≡ not (n == 0)
 value_by true n e = rw e refl
 value_by false n e = rw e refl
 
+-- the source at a place is one of the sources
 Has-place : (xs : List Source) (i : ℕ) → i < length xs → Has xs (get_or xs i NoSource)
 Has-place xs i lt = Has-get_or xs i NoSource lt
 
+-- The clause of a cell for the bits of its sources leaves one value: the bit of the table.
 forced_cell : (c : Circuits) (k word : ℕ) (e : Evaluated) → HaveValues c e (cell_at c.cells k).pins
     → word ≡ word_of (map (source_value c.net c.cells e) (cell_at c.cells k).pins)
     → IsForced e (literal (cell_variable c.net c.cells k) (bit_at (cell_at c.cells k).table word == 1)) (table_clause c.net c.cells k word)
@@ -95,6 +99,7 @@ forced_cell c k word e known is =
       ];
     }
 
+-- the number of that clause in the miter, and that it leaves that value
 pub cell_step : (c : Circuits) (k number word : ℕ) (e : Evaluated) → AreCellsWithCone c.cells → k < cell_count c.cells.geometry → in_cone c.cells k ≡ true
     → number ≡ first_of_cell c.net c.cells k → HaveValues c e (cell_at c.cells k).pins
     → word ≡ word_of (map (source_value c.net c.cells e) (cell_at c.cells k).pins) → word < 2 ^ length (cell_at c.cells k).pins
@@ -119,6 +124,7 @@ pub cone_in : (cells : CellsValue) (k : ℕ) → k < length cells.cone → in_co
 cone_in cells k lt inside =
     sum_by_more _ cells.cone k false lt ∙ ap (λ (b : Bool). cone_before cells k + (if b then 1 else 0)) inside
 
+-- a cell outside the cone has none
 pub cone_out : (cells : CellsValue) (k : ℕ) → k < length cells.cone → in_cone cells k ≡ false → cone_before cells (k + 1) ≡ cone_before cells k
 cone_out cells k lt outside =
     sum_by_more _ cells.cone k false lt ∙ ap (λ (b : Bool). cone_before cells k + (if b then 1 else 0)) outside ∙ omega arith
@@ -132,6 +138,7 @@ cone_up cells j (suc d) le =
     let same = ap (cone_before cells) (let e : j + d + 1 ≡ j + suc d = omega arith in e) in
     omega arith
 
+-- so a cell of the cone has fewer before it than each later one
 pub cone_less : (cells : CellsValue) (j k : ℕ) → j < k → k ≤ length cells.cone → in_cone cells j ≡ true → cone_before cells j < cone_before cells k
 cone_less cells j k less lt inside =
     let up = cone_up cells (j + 1) (k - (j + 1)) (omega arith) in
@@ -183,6 +190,7 @@ cells_more net cells k u lt inside =
       ],
     )
 
+-- a cell outside the cone adds no variable to those of the cells before
 pub cells_none : (net : Network) (cells : CellsValue) (k u : ℕ) → k < length cells.cone → in_cone cells k ≡ false
     → IsOfCells net cells (k + 1) u ↔ IsOfCells net cells k u
 cells_none net cells k u lt outside =
@@ -206,5 +214,6 @@ pub bool_byte-is : (b : Bool) → bool_byte b ≡ bit_of b
 bool_byte-is true = refl
 bool_byte-is false = refl
 
+-- a value as a bit is 1 at most
 pub bit_of-le : (b : Bool) → bit_of b ≤ 1
 bit_of-le b = bit_of-small b

@@ -21,6 +21,7 @@ use Rattle.miter_places.proofs.NumberLaws.{length-Miter, row_clause, cover_claus
 use Rattle.miter_values.specs.Parts.{circuits_of}
 
 module _ (net : Network) (cells : CellsValue) where
+  -- the last clause of the miter, alone
   last : List Lits
   last = map clause_of (some_difference net cells ∷ [])
 
@@ -36,6 +37,7 @@ module _ (net : Network) (cells : CellsValue) where
       let all = ap (λ (cs : List Lits). length cs) all_are in
       omega (arith, length-Miter net cells, length-append (circuits_of net cells) last)
 
+  -- and each of these numbers names the same clause in both
   pub circuits_clause : (n : ℕ) → 1 ≤ n → n < number_of_last net cells → clause_numbered (circuits_of net cells) n ≡ clause_numbered (Miter net cells).clauses n
   circuits_clause n low high =
       let count = circuits-count in
@@ -45,6 +47,7 @@ module _ (net : Network) (cells : CellsValue) where
   nodes_end : first_of_node net (length net.nodes) ≤ number_of_last net cells
   nodes_end = omega arith
 
+  -- the cells end before the last clause too
   cells_end : first_of_cell net cells (length cells.cells) ≤ number_of_last net cells
   cells_end = omega arith
 
@@ -130,6 +133,7 @@ module _ (net : Network) (cells : CellsValue) where
       let count = circuits-count in
       (omega arith, omega arith)
 
+  -- a cell outside the cone has no clause, so the next one begins where it does
   pub cell_none : (k number : ℕ) → number ≡ first_of_cell net cells k → in_cone cells k ≡ false → number ≡ first_of_cell net cells (k + 1)
   cell_none k number at outside =
       let listed : cell_clauses net cells k ≡ [] = rw outside refl in

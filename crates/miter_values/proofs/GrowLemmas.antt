@@ -25,24 +25,30 @@ forced_set e l c h = record {
   others = λ m here. h.others m ((SameSet-clause_of c m).0 here);
 }
 
+-- a literal is its variable and its sign
 literal_is : (l : Literal) (v : ℕ) (b : Bool) → l.variable ≡ v → l.positive ≡ b → l ≡ record { variable = v; positive = b }
 literal_is l v b e s = λ i. record { variable = e i; positive = s i }
 
+-- two negations cancel out
 not_not : (b : Bool) → not (not b) ≡ b
 not_not true = refl
 not_not false = refl
 
 module _ (f : List Lits) (e : Evaluated) (v number : ℕ) (value : Bool) (evaluated : IsEvaluated f e) (without : IsWithout e v)
     (low : 1 ≤ number) (high : number ≤ length f) (forced : IsForced e (literal v value) (clause_numbered f number)) where
+  -- the variable has its new value
   value_same : value_of (set e.values v value) v ≡ value
   value_same = get_or-set_same e.values v value false without.high
 
+  -- the others keep theirs
   value_kept : (u : ℕ) → Has e.order u → value_of (set e.values v value) u ≡ value_of e.values u
   value_kept u h = get_or-set_other e.values v u value false (λ same. without.fresh (subst (Has e.order) same h))
 
+  -- its true literal is the one that the clause leaves
   true_is : true_literal (set e.values v value) v ≡ literal v value
   true_is = ap (literal v) value_same
 
+  -- so the clause is its reason
   is_reason : IsReason (set e.values v value) e.order v (clause_numbered f number)
   is_reason = record {
     implied = subst (Has (clause_numbered f number)) (sym true_is) forced.implied;
@@ -131,6 +137,7 @@ grows_as f a b first second p same = record {
 pub false_grows : (f : List Lits) (a b : Evaluated) (news : ℕ → Type 0) (l : Literal) → Grows f a b news → IsFalseIn a l → IsFalseIn b l
 false_grows f a b news l p h = record { known = (p.known l.variable).1 (inl h.known); value = p.values l.variable h.known ∙ h.value }
 
+-- the same of true literals
 pub true_grows : (f : List Lits) (a b : Evaluated) (news : ℕ → Type 0) (l : Literal) → Grows f a b news → IsTrueIn a l → IsTrueIn b l
 true_grows f a b news l p h = record { known = (p.known l.variable).1 (inl h.known); value = p.values l.variable h.known ∙ h.value }
 

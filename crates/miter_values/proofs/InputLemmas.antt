@@ -37,6 +37,7 @@ chosen_none f x e h none =
       bits = λ i lt. absurd (omega arith);
     }
 
+-- a value as a bit is the bit that it was read from
 bit_back : (b : Bool) (n : ℕ) → n ≡ (if b then 1 else 0) → bit_of b ≡ n
 bit_back true n e = sym e
 bit_back false n e = sym e
@@ -103,11 +104,13 @@ inputs_grow net f x a b news h grows =
       many = omega arith;
     }
 
+-- where just the inputs have values, they have the bits that were chosen
 pub inputs_begin : (net : Network) (f : List Lits) (x : List ℕ) (e : Evaluated) → AreChosen f x (length net.inputs) e → HasInputs net x e
 inputs_begin net f x e h = record { chosen = h.chosen; order = h.order; bits = h.bits; many = let count = h.count in omega arith }
 
 -- ---- what is known on the way
 
+-- the variables of a node come before those of the cells
 node_high : (net : Network) (v u : ℕ) → v < length net.nodes → IsOfNode net v u → u < 2 + signals net + row_count net
 node_high net v u lt (inl p) = let high = p.1 in let rows = rows_within net v lt in omega arith
 node_high net v u lt (inr p) = omega arith
@@ -115,9 +118,11 @@ node_high net v u lt (inr p) = omega arith
 module _ (c : Circuits) (x : List ℕ) (start zeroed noded celled : Evaluated) (are : AreCircuits c.net c.cells)
     (chosen : AreChosen (circuits_of c.net c.cells) x (length c.net.inputs) start)
     (zero_grows : Grows (circuits_of c.net c.cells) start zeroed (λ u. u ≡ zero_variable)) where
+  -- the inputs have values once the variable zero has its own
   pub zeroed_inputs : (i : ℕ) → i < length c.net.inputs → Has zeroed.order (signal_variable i)
   zeroed_inputs i lt = (zero_grows.known (signal_variable i)).1 (inl (subst (Has start.order) (chosen.order i lt) (Has-get_or start.order i 0 (let count = chosen.count in omega arith))))
 
+  -- and no variable behind the inputs has one yet
   pub zeroed_low : (u : ℕ) → Has zeroed.order u → u < 2 + length c.net.inputs
   zeroed_low u here = elim ((zero_grows.known u).0 here) [
     | inl old ↦ (chosen.known u old).1

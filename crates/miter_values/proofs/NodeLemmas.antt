@@ -83,6 +83,7 @@ positive_in rows f m h =
     let lt : at.0 < rows = let within = at.1 in omega (arith, length-map (list_of rows f) positive, length-list_of rows f) in
     (at.0, lt, sym at.2 ∙ get_or-map positive (list_of rows f) at.0 0 m (omega (arith, length-list_of rows f)) ∙ ap positive (get_or-list_of rows f at.0 0 lt))
 
+-- The node's clause for the row that hits, or for none, leaves one value: that of the node.
 forced_cover : (net : Network) (v : ℕ) (e : Evaluated) (hit : Option ℕ) → IsHit net v e (length (node_at net v).rows) hit
     → ((r : ℕ) → r < length (node_at net v).rows → Has e.order (row_variable net v r))
     → (cover_place hit ≤ length (node_at net v).rows)

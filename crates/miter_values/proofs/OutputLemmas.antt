@@ -66,6 +66,7 @@ source_known c e o are lt done = by (output_source c.cells o) (source_there c o 
 
 -- ---- the clause that gives a difference its value
 
+-- where both have the same value, the clause for this value leaves the difference false
 forced_difference : (d a b : ℕ) (e : Evaluated) (value : Bool) → Has e.order a → Has e.order b → value ≡ value_of e.values a → value ≡ value_of e.values b
     → IsForced e (literal d false) (get_or (difference_clauses d a b) (bit_of value) [])
 forced_difference d a b e true known_a known_b first second = record {
@@ -95,10 +96,12 @@ forced_difference d a b e false known_a known_b first second = record {
   ];
 }
 
+-- a value as a bit is below four
 bit_few : (b : Bool) → bit_of b < 4
 bit_few true = omega arith
 bit_few false = omega arith
 
+-- the number of that clause in the miter, and that it leaves that value
 pub output_step : (c : Circuits) (o number : ℕ) (e : Evaluated) (value : Bool) → o < length c.net.outputs → number ≡ first_of_output c.net c.cells 0
     → Has e.order (signal_variable (output_signal c.net o)) → Has e.order (source_variable c.net c.cells (output_source c.cells o))
     → value ≡ value_of e.values (signal_variable (output_signal c.net o)) → value ≡ value_of e.values (source_variable c.net c.cells (output_source c.cells o))

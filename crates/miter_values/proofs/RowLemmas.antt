@@ -54,9 +54,11 @@ pub record IsSoFar (e : Evaluated) (row : List Mark) (ss : List ℕ) (i n : ℕ)
   pub all_true : (m : Literal) → Has (row_literals (take i row) ss) m → IsTrueIn e m
   pub few : n ≤ i
 
+-- no mark was read yet
 pub row_begins : (e : Evaluated) (row : List Mark) (ss : List ℕ) → IsSoFar e row ss 0 0
 row_begins e row ss = record { counted = refl; all_true = λ m h. absurd h; few = omega arith }
 
+-- a mark that asks nothing was read
 pub row_passes : (e : Evaluated) (row : List Mark) (ss : List ℕ) (i n : ℕ) (d : Mark) → i < length row → i < length ss → IsSoFar e row ss i n
     → mark_literals (get_or row i d) (get_or ss i 0) ≡ [] → IsSoFar e row ss (i + 1) n
 row_passes e row ss i n d lt within h none =
@@ -68,6 +70,7 @@ row_passes e row ss i n d lt within h none =
       few = let few = h.few in omega arith;
     }
 
+-- a mark was read whose literal is true
 pub row_goes_on : (e : Evaluated) (row : List Mark) (ss : List ℕ) (i n : ℕ) (d : Mark) (l : Literal) → i < length row → i < length ss → IsSoFar e row ss i n
     → mark_literals (get_or row i d) (get_or ss i 0) ≡ l ∷ [] → IsTrueIn e l → IsSoFar e row ss (i + 1) (n + 1)
 row_goes_on e row ss i n d l lt within h one is_true =
@@ -82,6 +85,7 @@ row_goes_on e row ss i n d l lt within h one is_true =
       few = let few = h.few in omega arith;
     }
 
+-- a mark was read whose literal is false: the row misses there
 pub row_misses : (e : Evaluated) (row : List Mark) (ss : List ℕ) (i n : ℕ) (d : Mark) (l : Literal) → i < length row → i < length ss → IsSoFar e row ss i n
     → mark_literals (get_or row i d) (get_or ss i 0) ≡ l ∷ [] → IsFalseIn e l → IsRowValue e (row_literals row ss) false n
 row_misses e row ss i n d l lt within h one is_false =
@@ -92,6 +96,7 @@ row_misses e row ss i n d l lt within h one is_false =
       λ x. subst (IsFalseIn e) (sym (ap (λ k. get_or (row_literals row ss) k x) counted ∙ at.1 x)) is_false,
     )
 
+-- all marks were read: the row hits
 pub row_hits : (e : Evaluated) (row : List Mark) (ss : List ℕ) (i n : ℕ) → i ≡ length row → IsSoFar e row ss i n
     → IsRowValue e (row_literals row ss) true n
 row_hits e row ss i n end h =
@@ -108,6 +113,7 @@ negated_in [] m h = absurd h
 negated_in (l ∷ ls) m (inl e) = (l, inl refl, sym e)
 negated_in (l ∷ ls) m (inr h) = let rest = negated_in ls m h in (rest.0, inr rest.1, rest.2)
 
+-- two negations cancel out
 not_not : (b : Bool) → b ≡ not (not b)
 not_not true = refl
 not_not false = refl
@@ -116,6 +122,7 @@ not_not false = refl
 negation_false : (e : Evaluated) (l : Literal) → IsTrueIn e l → IsFalseIn e (negation l)
 negation_false e l h = record { known = h.known; value = h.value ∙ not_not l.positive }
 
+-- The row's clause for its first false literal, or for none, leaves one value: whether it hits.
 pub forced_row : (e : Evaluated) (hit : ℕ) (asked : Lits) (hits : Bool) (n : ℕ) → IsRowValue e asked hits n
     → (n < length (hit_clauses hit asked)) × IsForced e (literal hit hits) (get_or (hit_clauses hit asked) n [])
 forced_row e hit asked true n h =
@@ -156,6 +163,7 @@ forced_row e hit asked false n h =
 
 -- ---- one literal that a mark asks
 
+-- a bit that differs from another is its negation
 differs : (a b : Bool) → a ≢ b → a ≡ not b
 differs true true h = absurd (h refl)
 differs true false h = refl
@@ -168,10 +176,12 @@ asked_known : (e : Evaluated) (ss : List ℕ) (i : ℕ) (m : Mark) (l : Literal)
 asked_known e ss i m l lt known one =
     subst (Has e.order) (sym (mark_variable m (get_or ss i 0) l one)) (known (get_or ss i 0) (Has-get_or ss i 0 lt))
 
+-- where the signal's value is the sign of the literal, the literal is true
 pub asked_true : (e : Evaluated) (ss : List ℕ) (i : ℕ) (m : Mark) (l : Literal) (value : Bool) → i < length ss → AreKnown e ss
     → mark_literals m (get_or ss i 0) ≡ l ∷ [] → value ≡ value_of e.values l.variable → value ≡ l.positive → IsTrueIn e l
 asked_true e ss i m l value lt known one read same = record { known = asked_known e ss i m l lt known one; value = sym read ∙ same }
 
+-- where it is the other, the literal is false
 pub asked_false : (e : Evaluated) (ss : List ℕ) (i : ℕ) (m : Mark) (l : Literal) (value : Bool) → i < length ss → AreKnown e ss
     → mark_literals m (get_or ss i 0) ≡ l ∷ [] → value ≡ value_of e.values l.variable → value ≢ l.positive → IsFalseIn e l
 asked_false e ss i m l value lt known one read other = record {
@@ -186,6 +196,7 @@ not_equal true false e h = cc
 not_equal false true e h = cc
 not_equal false false e h = cc
 
+-- and what the same test says where it fails
 pub equal : (a b : Bool) → not (beq a b) ≡ false → a ≡ b
 equal true true e = refl
 equal true false e = absurd (cc)

@@ -121,17 +121,18 @@ have_tracks l g columns rows seats spans inputs have seated signals chosen track
       tracks_are = tracks_are ∙ ap (λ n. list_of n (λ m. get_or chosen (get_or seats m 0) 0)) (seats-count l g columns rows seats are);
     }
 
--- the same where seats, spans and tracks were lent
+-- the same where seats, spans and tracks were lent, from what each step has answered
 pub have_tracks_lent : (l : MappedValue) (g : GeometryValue) (columns rows seats lent shown : List ℕ) (spans seated passed : List Span) (inputs have : ℕ) (signals : List (Option ℕ)) (chosen marks tracks : List ℕ)
-    → CanBePlaced l g columns rows spans → AreSeats l g columns rows seats → inputs ≡ l.inputs → have ≡ g.tracks
+    → CanBePlaced l g columns rows spans → inputs ≡ l.inputs → have ≡ g.tracks
+    → seats ≡ list_of (inputs + length columns) (seat_of inputs g columns rows)
     → lent ≡ seats → passed ≡ seated → shown ≡ seats → marks ≡ chosen
     → HaveSeats inputs g spans lent (length spans) seated signals → AreTracks passed have chosen
     → tracks ≡ list_of (length shown) (λ n. get_or marks (get_or shown n 0) 0)
     → HaveTracks l g columns rows spans seats seated signals chosen tracks
-have_tracks_lent l g columns rows seats lent shown spans seated passed inputs have signals chosen marks tracks h are e t p q r s seated_are choice tracks_are =
+have_tracks_lent l g columns rows seats lent shown spans seated passed inputs have signals chosen marks tracks h e t is p q r s seated_are choice tracks_are =
     let S : List ℕ → Type 0 = λ ss. HaveSeats inputs g spans ss (length spans) seated signals in
     let C : List Span → Type 0 = λ ss. AreTracks ss have chosen in
-    have_tracks l g columns rows seats spans inputs have seated signals chosen tracks h are e t (subst S p seated_are) (subst C q choice)
+    have_tracks l g columns rows seats spans inputs have seated signals chosen tracks h (are_seats l g columns rows spans inputs seats h e is) e t (subst S p seated_are) (subst C q choice)
     (tracks_are
     ∙ ap (λ ss. list_of (length ss) (λ n. get_or marks (get_or ss n 0) 0)) r
     ∙ ap (λ ms. list_of (length seats) (λ n. get_or ms (get_or seats n 0) 0)) s)

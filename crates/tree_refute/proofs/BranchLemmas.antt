@@ -77,10 +77,12 @@ last_in c log last of at =
           ∙ last_clause c.net c.cells,
     )
 
+-- two negations cancel out
 not_not : (b : Bool) → not (not b) ≡ b
 not_not true = refl
 not_not false = refl
 
+-- a value is whether its bit is 1
 one_is : (b : Bool) (n : ℕ) → bit_of b ≡ n → b ≡ (n == 1)
 one_is true n e = rw (sym e) refl
 one_is false n e = rw (sym e) refl
@@ -136,6 +138,7 @@ leaf_cut c e before after used need few h =
 
 -- ---- one branch after the other
 
+-- a later log of a later log is one
 pub extends_both : (a b c : LogValue) → Extends a b → Extends b c → Extends a c
 extends_both a b c p q = record {
   originals = q.originals ∙ p.originals;
@@ -146,16 +149,20 @@ extends_both a b c p q = record {
 
 -- ---- two clauses resolved on their input
 
+-- the negation of a value by its bit
 bit_back : (b : Bool) (n : ℕ) → bit_of b ≡ n → not b ≡ not (n == 1)
 bit_back b n e = ap not (one_is b n e)
 
 module _ (x : List ℕ) (i first : ℕ) (f : List Lits) (e : Evaluated) (chosen : AreChosen f x i e) (within : i < length x) (places : i + 2 < length e.values) where
+  -- the evaluation in which the first clause gave input i the value 1
   abbrev pub after : Evaluated
   after = with_implied e (signal_variable i) true first
 
+  -- input i has a place and no value yet
   pub join_without : IsWithout e (signal_variable i)
   join_without = record { low = omega arith; high = omega arith; fresh = λ h. let high = (chosen.known (signal_variable i) h).1 in absurd (omega arith) }
 
+  -- the inputs before it have values
   join_known : (j : ℕ) → j < i → Has e.order (signal_variable j)
   join_known j lt = subst (Has e.order) (chosen.order j lt) (Has-get_or e.order j 0 (let count = chosen.count in omega arith))
 
@@ -235,6 +242,7 @@ under_without x y i b k e under none l here =
 pub room_up : (c : Circuits) (i : ℕ) → i < length c.net.inputs → room_below c i ≡ room_below c (i + 1) + room_below c (i + 1) + most_words c
 room_up c i lt = ap (λ m. branch_words m (most_words c)) (let e : length c.net.inputs - i ≡ suc (length c.net.inputs - (i + 1)) = omega arith in e)
 
+-- a branch below the last input has the room of one clause
 room_end : (c : Circuits) → most_words c ≡ room_below c (length c.net.inputs)
 room_end c = ap (λ m. branch_words m (most_words c)) (let e : 0 ≡ length c.net.inputs - length c.net.inputs = omega arith in e)
 
@@ -329,6 +337,7 @@ half_bits n x y i b e small h = subst (IsBits n) (sym e) (record {
 
 -- ---- words enough
 
+-- with the words of one clause more, a branch with m inputs below it has those of 2 ^ (m + 1) clauses
 branch_total : (m w : ℕ) → branch_words m w + w ≡ 2 ^ (m + 1) * w
 branch_total zero w = omega arith
 branch_total (suc m) w =
@@ -341,6 +350,7 @@ branch_total (suc m) w =
     two : (n : ℕ) → n * 2 ≡ n + n
     two n = omega arith
 
+-- the room of the whole search is at most what is enough
 pub room-le-Enough : (c : Circuits) → room_below c 0 ≤ Enough (length c.net.inputs) (variable_count c.net c.cells)
 room-le-Enough c =
     let total = branch_total (length c.net.inputs) (most_words c) in

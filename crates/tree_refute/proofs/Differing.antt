@@ -34,17 +34,21 @@ place_in [] v h = absurd h
 place_in (y ∷ ys) v (inl e) = (0, omega arith, e)
 place_in (y ∷ ys) v (inr h) = let rest = place_in ys v h in (suc rest.0, (let lt = rest.1 in omega arith), rest.2)
 
+-- a value as a bit
 bit_if : (b : Bool) → (if b then 1 else 0) ≡ bit_of b
 bit_if true = refl
 bit_if false = refl
 
+-- what is there is the same
 some_same : (m n : ℕ) → Some m ≡ Some n → m ≡ n
 some_same m n e = cc
 
+-- no value has the bit of its negation
 bit_not : (b : Bool) → bit_of b ≡ (if not b then 1 else 0) → ⊥
 bit_not true e = absurd (omega arith)
 bit_not false e = absurd (omega arith)
 
+-- values with the same bit are the same
 same_bits : (a b : Bool) → bit_of a ≡ bit_of b → a ≡ b
 same_bits true true e = refl
 same_bits true false e = absurd (omega arith)
@@ -53,15 +57,19 @@ same_bits false false e = refl
 
 module _ (c : Circuits) (config : ConfigValue) (x : List ℕ) (e : Evaluated) (are : AreCircuits c.net c.cells) (is_config : IsConfig config)
     (of : AreCellsOf config c.cells) (bits : IsBits (length c.net.inputs) x) (inputs : HasInputs c.net x e) (evaluated : IsEvaluated (circuits_of c.net c.cells) e) where
+  -- the bits of the signals at the input x
   settled : (s : List ℕ) × Settles c.net x s
   settled = assignment_exists c.net x are.is_net.acyclic bits.count
 
+  -- the bits of the cells at x
   celled : (b : List ℕ) × CellBits c.cells x b
   celled = bits-exist c.cells x are.are_cells.cells
 
+  -- the assignment of both to the variables of the miter
   whole : List ℕ
   whole = assignment c.net c.cells x settled.0 celled.0
 
+  -- it extends the input
   extended : Extended c.net c.cells x settled.0 celled.0 whole
   unfolding whole
   extended = record {
@@ -81,6 +89,7 @@ module _ (c : Circuits) (config : ConfigValue) (x : List ℕ) (e : Evaluated) (a
       extended.gives.signals i (omega arith)
       ∙ ap Some (sym (get_or-take (length c.net.inputs) settled.0 i 0 lt) ∙ ap (λ ys. get_or ys i 0) settled.1.inputs ∙ sym (inputs.bits i lt))
 
+  -- the assignment gives the variable the bit of its value
   Given : ℕ → Type 0
   Given v = GivesBit whole v (bit_of (value_of e.values v))
 
@@ -119,6 +128,7 @@ module _ (c : Circuits) (config : ConfigValue) (x : List ℕ) (e : Evaluated) (a
         subst (λ v. GivesBit whole v (bit_of (value_of e.values v))) at.3 (all_given n at.0 (let less = at.1 in omega arith) at.2))
   ]
 
+  -- so it does with each variable that has a value
   known_given : (v : ℕ) → Has e.order v → Given v
   unfolding Given
   known_given v here = let at = place_in e.order v here in subst (λ u. GivesBit whole u (bit_of (value_of e.values u))) at.2 (all_given (suc at.0) at.0 (omega arith) at.1)

@@ -127,46 +127,22 @@ tracks_of-requires c =
 
 pub words-requires : goal.words-requires
 words-requires c =
-    let l = c.args.l.now in
-    let g = c.args.g in
-    let columns = c.args.columns.now in
-    let rows = c.args.rows.now in
-    let spans = c.args.spans.now in
-    let seats = c.in_ok-seats.seats.items in
-    let seated = c.in_ok-seating.seating.spans.items in
-    let signals = c.in_ok-seating.seating.signals.items in
-    let chosen = c.in_ok-chosen.chosen.items in
-    let tracks = c.in_ok-tracks.tracks.items in
-    let ready : CanBePlaced l g columns rows spans =
-    record { geometry = c.t-have.ensures.known; cols = c.requires.columns; are_rows = c.requires.rows; are = c.requires.spans; met = c.requires.met } in
-    let are : AreSeats l g columns rows seats =
-    are_seats l g columns rows spans c.inputs-inputs.result seats ready c.inputs-inputs.ensures.count c.in_ok-seats.ensures in
-    is_routing l g columns rows spans seats seated signals chosen tracks
-    (have_tracks_lent l g columns rows seats c.deref.result.now c.deref-3.result.now spans seated c.deref-2.result.now c.inputs-inputs.result
-    c.t-have.result signals chosen c.deref-4.result.now tracks ready are c.inputs-inputs.ensures.count c.t-have.ensures.value
+    is_routing c.args.l.now c.args.g c.args.columns.now c.args.rows.now c.args.spans.now c.in_ok-seats.seats.items
+    c.in_ok-seating.seating.spans.items c.in_ok-seating.seating.signals.items c.in_ok-chosen.chosen.items c.in_ok-tracks.tracks.items
+    (have_tracks_lent _ _ _ _ _ _ _ _ _ _ _ _ _ _ _ _
+    (record { geometry = c.t-have.ensures.known; cols = c.requires.columns; are_rows = c.requires.rows; are = c.requires.spans; met = c.requires.met })
+    c.inputs-inputs.ensures.count c.t-have.ensures.value c.in_ok-seats.ensures
     c.deref.ensures.value c.deref-2.ensures.value c.deref-3.ensures.value c.deref-4.ensures.value
     c.in_ok-seating.ensures c.in_ok-chosen.ensures c.in_ok-tracks.ensures)
     c.inputs-inputs.ensures.known.mapped c.requires.columns
 
 pub returns : goal.returns
 returns c =
-    let l = c.args.l.now in
-    let g = c.args.g in
-    let columns = c.args.columns.now in
-    let rows = c.args.rows.now in
-    let spans = c.args.spans.now in
-    let seats = c.in_ok-seats.seats.items in
-    let seated = c.in_ok-seating.seating.spans.items in
-    let signals = c.in_ok-seating.seating.signals.items in
-    let chosen = c.in_ok-chosen.chosen.items in
-    let tracks = c.in_ok-tracks.tracks.items in
-    let ready : CanBePlaced l g columns rows spans =
-    record { geometry = c.t-have.ensures.known; cols = c.requires.columns; are_rows = c.requires.rows; are = c.requires.spans; met = c.requires.met } in
-    let are : AreSeats l g columns rows seats =
-    are_seats l g columns rows spans c.inputs-inputs.result seats ready c.inputs-inputs.ensures.count c.in_ok-seats.ensures in
-    let have = have_tracks_lent l g columns rows seats c.deref.result.now c.deref-3.result.now spans seated c.deref-2.result.now c.inputs-inputs.result
-    c.t-have.result signals chosen c.deref-4.result.now tracks ready are c.inputs-inputs.ensures.count c.t-have.ensures.value
+    written_place c.words.result c.args.l.now c.args.g c.args.columns.now c.args.rows.now c.args.spans.now c.in_ok-seats.seats.items
+    c.in_ok-seating.seating.spans.items c.in_ok-seating.seating.signals.items c.in_ok-chosen.chosen.items c.in_ok-tracks.tracks.items
+    (have_tracks_lent _ _ _ _ _ _ _ _ _ _ _ _ _ _ _ _
+    (record { geometry = c.t-have.ensures.known; cols = c.requires.columns; are_rows = c.requires.rows; are = c.requires.spans; met = c.requires.met })
+    c.inputs-inputs.ensures.count c.t-have.ensures.value c.in_ok-seats.ensures
     c.deref.ensures.value c.deref-2.ensures.value c.deref-3.ensures.value c.deref-4.ensures.value
-    c.in_ok-seating.ensures c.in_ok-chosen.ensures c.in_ok-tracks.ensures in
-    written_place c.words.result l g columns rows spans seats seated signals chosen tracks have
+    c.in_ok-seating.ensures c.in_ok-chosen.ensures c.in_ok-tracks.ensures)
     c.inputs-inputs.ensures.known.mapped c.requires.columns c.requires.pins c.words.ensures

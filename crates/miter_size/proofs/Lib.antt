@@ -1,0 +1,4 @@
+pub mod MiterWords
+pub mod PrintedLengths
+pub mod TraceLengths
+pub mod BundleLengths

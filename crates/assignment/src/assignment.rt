@@ -73,6 +73,13 @@ impl Assignment {
         self.lits[i]
     }
 
+    /// The literals, in their order.
+    pub fn literals(&self) -> &[Lit]
+        ensures { result.now ≡ self.now.lits }
+    {
+        &self.lits
+    }
+
     /// Whether the literal is true.
     pub fn holds(&self, l: Lit) -> bool
         requires { l.variable ≤ self.now.variables }

@@ -87,13 +87,13 @@ same_misses v w f n m same rose counted = record {
   cause = rose;
 }
 
--- where there is a front, it was met
-pub of_some : {X : Type 0} {N : Type 0} {S : X → Type 0} (o : Option X) (x : X) → o ≡ Some x → MatchOption o N S → S x
-of_some o x is facts = subst (λ p. MatchOption p _ _) is facts
+-- what is known of an option that is there
+pub of_some : {X : Type 0} (N : Type 0) (S : X → Type 0) (o : Option X) (x : X) → o ≡ Some x → MatchOption o N S → S x
+of_some N S o x is facts = subst (λ p. MatchOption p N S) is facts
 
--- where there is none, nothing was
-pub of_none : {X : Type 0} {N : Type 0} {S : X → Type 0} (o : Option X) → o ≡ None → MatchOption o N S → N
-of_none o is facts = subst (λ p. MatchOption p _ _) is facts
+-- what is known of one that isn't
+pub of_none : {X : Type 0} (N : Type 0) (S : X → Type 0) (o : Option X) → o ≡ None → MatchOption o N S → N
+of_none N S o is facts = subst (λ p. MatchOption p N S) is facts
 
 -- a place that met a copy and whose count of refusals stayed sees it
 pub kept_sees : (v w : Option Published) (f met : FrontValue) (n m : ℕ) → m ≡ n → IsAt v f → IsMet v w met

@@ -7,9 +7,9 @@ pub returns : goal.returns
 returns c = rw (← c.self.view_is)
     (by_result c.keep.result
     (λ _ kept.
-    let met = of_some _ _ kept.0 c.visit_front-met.ensures in
+    let met = of_some _ _ _ _ kept.0 c.visit_front-met.ensures in
     record { sees = kept_sees _ _ _ _ _ _ kept.1 c.self.invariant met.0; learned = met.1 })
     (λ _ kept.
-    kept_leaves _ _ _ _ _ _ kept.1 c.self.invariant (of_none _ kept.0 c.visit_front-met.ensures) kept.2
+    kept_leaves _ _ _ _ _ _ kept.1 c.self.invariant (of_none _ _ _ kept.0 c.visit_front-met.ensures) kept.2
     c.keep.ensures.counted)
     c.keep.ensures.kept)

@@ -2,16 +2,17 @@
 -- and of no other lane.
 use Rattle.std.specs.Prelude.{◌≡◌, ℕ, ◌-◌, ◌≤◌, Bool, true, false, List, length, take, slice_get, Some, sum_by}
 use Rattle.std.specs.List.{count_by}
+use mathlib.Core.List.{IsPrefix}
 use Rattle.fabric_defs.specs.Geometries.{GeometryValue}
 use Rattle.journal_defs.specs.Journals.{EntryValue}
 use Rattle.script_defs.specs.declared.command.Command.{Command}
 use Rattle.script_defs.specs.declared.line.EntryKind.{EntryKind}
 use Rattle.script_defs.specs.Scripts.{ScriptValue}
-use Rattle.script_defs.specs.Transcripts.{ReplyValue, agreed, installed, evicted, full, unagreed, refused, stale, out, vacant, width, ones}
+use Rattle.script_defs.specs.Transcripts.{ReplyValue, agreed, installed, evicted, full, unagreed, refused, stale, out, vacant, width, ones, IsPrintable}
 use Rattle.session_defs.specs.Files.{Contents}
 use Rattle.session_defs.specs.Lines.{kind_of}
 use Rattle.session_defs.specs.Meant.{MeansChange}
-use Rattle.session_defs.specs.Points.{PointsRise}
+use Rattle.session_defs.specs.Points.{before, after, PointsRise}
 use Rattle.session_defs.specs.Replies.{Meets}
 use Rattle.session_defs.specs.Transcripts.{slot_of, made}
 
@@ -44,6 +45,18 @@ makes_entry (ones counts outputs at) = false
 -- how many entries the commands with these replies made
 abbrev pub entries_made : List ReplyValue → ℕ
 entries_made replies = count_by makes_entry replies
+
+-- a command of this turn of this lane is answered so, between the entries that the lane saw before and those that it
+-- has seen then: the reply is right after these, and the entry that it tells of is this command's
+pub record LaneAnswers (g : GeometryValue) (limit : ℕ) (files : List Contents) (lane turn : ℕ) (command : Command)
+    (reply : ReplyValue) (old new : List EntryValue) : Type 0 where
+  pub later : IsPrefix old new
+  pub printable : IsPrintable reply
+  pub meets : Meets g limit files new command reply
+  pub begins : length old ≤ before reply
+  pub rises : before reply ≤ after reply
+  pub within : after reply ≤ length new
+  pub entry : (kind : EntryKind) (number : ℕ) → reply ≡ made kind number → MadeEntry files new lane turn command kind number
 
 -- the commands of a lane have these replies, each of which is right after the entries that the lane has seen: its
 -- points never fall, and what it was told to have made stands among them

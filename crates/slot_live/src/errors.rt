@@ -1,0 +1,76 @@
+//! What calls answer in place of their value.
+
+use crate::place::Gone;
+use pch_base::NoMemory;
+use thiserror::Error;
+
+/// Why an entry was refused. Nothing was published then.
+#[derive(Clone, Copy, Debug, Drop, Error, PartialEq, Eq)]
+pub enum ControlError {
+    /// No net is agreed for the slot. The journal has `at` entries.
+    #[error("no net is agreed at {at}")]
+    Unagreed { at: u32 },
+    /// The agreed net isn't the one that was checked. The journal has `at` entries.
+    #[error("another net is agreed at {at}")]
+    Stale { at: u32 },
+    /// The journal has as many entries as it may.
+    #[error("the journal has {limit} entries")]
+    Full { limit: u32 },
+    /// Memory was wanting in an earlier call.
+    #[error("memory was wanting before")]
+    Broken,
+    /// Memory was wanting.
+    #[error("no memory")]
+    NoMemory,
+}
+
+/// Why a device wasn't opened.
+#[derive(Clone, Copy, Debug, Drop, Error, PartialEq, Eq)]
+pub enum OpenError {
+    /// Memory was wanting.
+    #[error("no memory")]
+    NoMemory,
+}
+
+/// Why an evaluator that copies a net has no answer.
+#[derive(Clone, Copy, Debug, Drop, Error, PartialEq, Eq)]
+pub enum ReadEnd {
+    /// The published copies refused to be entered.
+    #[error("refused to enter")]
+    Gone,
+    /// Memory was wanting. The evaluator may have seen more than before.
+    #[error("no memory")]
+    NoMemory,
+}
+
+impl From<Gone> for ReadEnd {
+    ghost from_gives = { λ _ e. e ≡ ReadEnd.Gone };
+
+    fn from(_: Gone) -> ReadEnd {
+        ReadEnd::Gone
+    }
+}
+
+impl From<NoMemory> for ReadEnd {
+    ghost from_gives = { λ _ e. e ≡ ReadEnd.NoMemory };
+
+    fn from(_: NoMemory) -> ReadEnd {
+        ReadEnd::NoMemory
+    }
+}
+
+impl From<NoMemory> for OpenError {
+    ghost from_gives = { λ _ e. e ≡ OpenError.NoMemory };
+
+    fn from(_: NoMemory) -> OpenError {
+        OpenError::NoMemory
+    }
+}
+
+impl From<NoMemory> for ControlError {
+    ghost from_gives = { λ _ e. e ≡ ControlError.NoMemory };
+
+    fn from(_: NoMemory) -> ControlError {
+        ControlError::NoMemory
+    }
+}

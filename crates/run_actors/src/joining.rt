@@ -1,6 +1,6 @@
 //! What lanes know that have ended, put together as one transcript.
 
-ghost use Rattle.std.specs.Prelude.{◌≡◌, ◌×◌, ◌+◌, ◌≤◌, ℕ, List, length, map, IfOk};
+ghost use Rattle.std.specs.Prelude.{◌≡◌, ◌+◌, ◌≤◌, ℕ, List, length, map, IfOk};
 ghost use Rattle.script_defs.specs.Scripts.{IsScript};
 ghost use Rattle.script_defs.specs.Transcripts.{ArePrintable};
 ghost use Rattle.session_defs.specs.Files.{Contents};

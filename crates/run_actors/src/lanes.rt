@@ -1,6 +1,6 @@
 //! The commands of a lane, one after another.
 
-ghost use Rattle.std.specs.Prelude.{◌≡◌, ◌×◌, ◌<◌, ◌≤◌, [], ℕ, List, length, map, All, IfOk};
+ghost use Rattle.std.specs.Prelude.{◌≡◌, ◌<◌, ◌≤◌, [], ℕ, List, length, map, All, IfOk};
 ghost use Rattle.std.specs.Borrow.{Bor};
 ghost use Rattle.fabric_defs.specs.Geometries.{IsGeometry};
 ghost use Rattle.script_defs.specs.declared.command.Command.{Command as CommandValue};

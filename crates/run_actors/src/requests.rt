@@ -1,6 +1,6 @@
 //! What a lane asks the control for: it is compared with the journal, asks, and learns what came of it.
 
-ghost use Rattle.std.specs.Prelude.{◌≡◌, ◌×◌, ◌<◌, MatchResult};
+ghost use Rattle.std.specs.Prelude.{◌≡◌, ◌<◌, MatchResult};
 ghost use Rattle.slot_live.specs.Calls.{IsMade, Refuses};
 ghost use Rattle.slot_live.specs.Shares.{Counts};
 ghost use Rattle.run_actors.specs.Requests.{entry_of, IsFit, Settles};

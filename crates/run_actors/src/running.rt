@@ -1,6 +1,6 @@
 //! Sessions: lanes beside each other, or one after another, on a device of their own.
 
-ghost use Rattle.std.specs.Prelude.{◌≡◌, ◌×◌, ◌≤◌, [], length, map, All, IfOk};
+ghost use Rattle.std.specs.Prelude.{◌≡◌, ◌≤◌, [], length, map, All, IfOk};
 ghost use Rattle.script_defs.specs.Scripts.{IsScript};
 ghost use Rattle.script_defs.specs.Transcripts.{ArePrintable};
 ghost use Rattle.session_defs.specs.Transcripts.{TranscriptOf};

@@ -1,6 +1,6 @@
 //! What a lane asks the slots with: its evaluator, and its share of the count of entries.
 
-ghost use Rattle.std.specs.Prelude.{◌≡◌, ◌×◌, ◌<◌, [], Some, IsTrue, IfOk, length};
+ghost use Rattle.std.specs.Prelude.{◌≡◌, ◌<◌, [], Some, IsTrue, IfOk, length};
 ghost use mathlib.Core.List.{IsPrefix};
 ghost use Rattle.fabric_defs.specs.Geometries.{cell_count};
 ghost use Rattle.journal_defs.specs.Legality.{Legal};
@@ -26,7 +26,7 @@ pub(crate) struct Seat<L: Naming> {
 }
 
 impl<L: Naming> Model for Seat<L> {
-    ghost use Rattle.std.specs.Prelude.{◌≡◌, ◌×◌, Some};
+    ghost use Rattle.std.specs.Prelude.{◌≡◌, Some};
     ghost use Rattle.run_actors.specs.Seats.{SeatValue};
 
     ghost Value = { SeatValue };

@@ -44,7 +44,7 @@ pub struct Control {
 }
 
 impl Model for Control {
-    ghost use Rattle.std.specs.Prelude.{◌≡◌, ◌×◌, false, [], Some, drop};
+    ghost use Rattle.std.specs.Prelude.{◌≡◌, false, [], Some, drop};
     ghost use Rattle.left_right.specs.Sides.{view};
     ghost use Rattle.slot_live.specs.Values.{ControlValue};
     ghost use Rattle.slot_live.specs.Histories.{head_of};

@@ -1,4 +1,4 @@
-ghost use Rattle.std.specs.Prelude.{◌≡◌, ◌×◌, ◌+◌, ◌≤◌, ◌<◌, [], length, All, IfOk, MatchResult};
+ghost use Rattle.std.specs.Prelude.{◌≡◌, ◌+◌, ◌≤◌, ◌<◌, [], length, All, IfOk, MatchResult};
 ghost use Rattle.std.specs.Arc.{arc_value};
 ghost use Rattle.miter_defs.specs.Equality.{FitsPads};
 ghost use Rattle.slot_live.specs.Values.{shape_of};
@@ -30,7 +30,7 @@ pub struct Counted<L: Naming> {
 }
 
 impl<L: Naming> Model for Counted<L> {
-    ghost use Rattle.std.specs.Prelude.{◌≡◌, ◌×◌, length};
+    ghost use Rattle.std.specs.Prelude.{◌≡◌, length};
     ghost use Rattle.slot_live.specs.Values.{ControlValue, shape_of};
 
     ghost Value = { ControlValue };

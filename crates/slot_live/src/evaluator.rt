@@ -1,6 +1,6 @@
 //! Evaluators: each asks the slots from a place of its own.
 
-ghost use Rattle.std.specs.Prelude.{◌≡◌, ◌×◌, ◌⊎◌, ◌<◌, [], length, IfOk, MatchResult};
+ghost use Rattle.std.specs.Prelude.{◌≡◌, ◌⊎◌, ◌<◌, [], length, IfOk, MatchResult};
 ghost use Rattle.fabric_defs.specs.Geometries.{cell_count};
 ghost use Rattle.slot_live.specs.Places.{Sees, Misses, Ends};
 ghost use Rattle.slot_live.specs.Answers.{IsCycle, IsSweep, IsLook, IsSince};

@@ -1,7 +1,7 @@
 //! Fronts: beginnings of the journal that were reached. The entries of one `open` make one history, which
 //! only grows and is of no other `open`; it exists in proofs alone, but for a word with its length.
 
-ghost use Rattle.std.specs.Prelude.{◌≡◌, ◌×◌, ◌+◌, ◌-◌, ◌^◌, ◌<◌, [], ◌∷◌, ◌++◌, length, IsTrue, IfSome};
+ghost use Rattle.std.specs.Prelude.{◌≡◌, ◌+◌, ◌-◌, ◌^◌, ◌<◌, [], ◌∷◌, ◌++◌, length, IsTrue, IfSome};
 ghost use mathlib.Core.List.{IsPrefix};
 ghost use Rattle.slot_live.specs.Histories.{head_of};
 

@@ -1,4 +1,4 @@
-ghost use Rattle.std.specs.Prelude.{◌≡◌, ◌×◌, ◌≤◌, [], false, length, All, IfOk};
+ghost use Rattle.std.specs.Prelude.{◌≡◌, ◌≤◌, [], false, length, All, IfOk};
 ghost use Rattle.slot_live.specs.Places.{IsNewAt};
 
 use crate::control::Control;

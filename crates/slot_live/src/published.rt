@@ -1,6 +1,6 @@
 //! What is published: a table with a front that stands for its journal.
 
-ghost use Rattle.std.specs.Prelude.{◌≡◌, ◌×◌, ◌<◌, length, IsTrue};
+ghost use Rattle.std.specs.Prelude.{◌≡◌, ◌<◌, length, IsTrue};
 ghost use Rattle.journal_defs.specs.Legality.{CanFollow};
 ghost use Rattle.slot_core.specs.Entries.{entry_value};
 ghost use Rattle.slot_live.specs.Calls.{IsChecked};

@@ -1,7 +1,7 @@
 //! What evaluators do with the table that they enter. Each task has its room, is set before a place is
 //! entered, and has its answer afterwards; none takes memory but `Ticketing`, which copies a net.
 
-ghost use Rattle.std.specs.Prelude.{◌≡◌, ◌×◌, ◌<◌, length, IfOk, Ok, None};
+ghost use Rattle.std.specs.Prelude.{◌≡◌, ◌<◌, length, IfOk, Ok, None};
 ghost use Rattle.std.specs.Arc.{arc_value};
 ghost use Rattle.std.specs.Option.{option_map};
 ghost use Rattle.miter_defs.specs.Equality.{FitsPads};

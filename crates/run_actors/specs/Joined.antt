@@ -1,7 +1,7 @@
 -- Lanes that are to run, lanes that have run, and their shares put together.
 use Rattle.std.specs.Prelude.{◌≡◌, ℕ, List, [], length, map, slice_get, Option, None, Some}
 use Rattle.core.specs.declared.ledger.Share.{Share}
-use Rattle.slot_live.specs.Values.{Shape}
+use Rattle.live_table.specs.Values.{Shape}
 use Rattle.script_defs.specs.declared.command.Command.{Command}
 use Rattle.session_defs.specs.Files.{Contents}
 use Rattle.run_script.specs.Replies.{reply_of}

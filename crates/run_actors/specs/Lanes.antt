@@ -1,7 +1,7 @@
 -- What a lane does at its turns, and what it ends with.
 use Rattle.std.specs.Prelude.{◌≡◌, ℕ, ◌+◌, ◌<◌, ◌≤◌, if◌then◌else◌, List, [], length, map, All, Result, IfOk}
 use Rattle.fabric_defs.specs.Geometries.{GeometryValue}
-use Rattle.slot_live.specs.Values.{Shape}
+use Rattle.live_table.specs.Values.{Shape}
 use Rattle.slot_live.specs.declared.errors.ControlError.{ControlError}
 use Rattle.slot_live.specs.declared.errors.ControlError.TheVariants.{Unagreed, Stale, Full, Broken, NoMemory}
 use Rattle.script_defs.specs.declared.command.Command.{Command}

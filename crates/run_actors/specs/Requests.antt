@@ -5,7 +5,7 @@ use mathlib.Core.List.{IsPrefix}
 use Rattle.fabric_defs.specs.Geometries.{GeometryValue}
 use Rattle.miter_defs.specs.Equality.{FitsPads}
 use Rattle.journal_defs.specs.Journals.{Change, agreed, installed, evicted, EntryValue}
-use Rattle.slot_live.specs.Values.{ControlValue}
+use Rattle.live_table.specs.Values.{ControlValue}
 use Rattle.slot_live.specs.Calls.{IsCurrent, IsDue}
 use Rattle.slot_live.specs.declared.errors.ControlError.{ControlError}
 use Rattle.run_actors.specs.declared.turn.Turn.{Turn}

@@ -2,7 +2,7 @@
 use Rattle.std.specs.Prelude.{◌≡◌, ℕ, List}
 use mathlib.Core.List.{IsPrefix}
 use Rattle.journal_defs.specs.Journals.{EntryValue}
-use Rattle.slot_live.specs.Values.{PlaceValue}
+use Rattle.live_table.specs.Values.{PlaceValue}
 
 -- the entries that the lane has seen, and how many it has made
 pub record SeatValue : Type 0 where

@@ -5,7 +5,7 @@ ghost use Rattle.script_defs.specs.Scripts.{IsScript};
 ghost use Rattle.script_defs.specs.Transcripts.{ArePrintable};
 ghost use Rattle.session_defs.specs.Files.{Contents};
 ghost use Rattle.session_defs.specs.Transcripts.{TranscriptOf};
-ghost use Rattle.slot_live.specs.Values.{shape_of};
+ghost use Rattle.live_table.specs.Values.{shape_of};
 ghost use Rattle.run_script.specs.Views.{script_of};
 ghost use Rattle.run_script.specs.Replies.{transcript_of};
 ghost use Rattle.run_actors.specs.Loading.{contents_of};
@@ -44,7 +44,7 @@ impl<L: Naming> Seat<L> {
         ensures on { LooksOn self.old self.new }
         ensures abreast { self.new.seen ≡ control.now.table.journal }
     {
-        for _ in rt.forever() {
+        for _again in rt.forever() {
             if self.is_abreast(rt, control) {
                 return;
             }

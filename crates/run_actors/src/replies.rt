@@ -9,7 +9,7 @@ ghost use Rattle.script_defs.specs.declared.command.Command.TheVariants.{Cycle a
 ghost use Rattle.script_defs.specs.Transcripts.{refused as refused_reply};
 ghost use Rattle.session_defs.specs.Files.{Contents};
 ghost use Rattle.session_defs.specs.LaneEnds.{makes_entry, LaneAnswers};
-ghost use Rattle.slot_live.specs.Answers.{IsCycle, IsSweep};
+ghost use Rattle.live_table.specs.Answers.{IsCycle, IsSweep};
 ghost use Rattle.run_script.specs.Replies.{reply_of};
 ghost use Rattle.run_actors.specs.Lanes.{IsDenial};
 

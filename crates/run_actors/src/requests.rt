@@ -90,7 +90,7 @@ impl<L: Naming> Seat<L> {
         requires fit { IsFit L.shape.geometry request }
         ensures { Settles L.shape.limit (entry_of at slot request) self.old self.new result }
     {
-        for _ in rt.forever() {
+        for _again in rt.forever() {
             let mut guard = lock.lock(rt);
             if self.is_abreast(rt, guard.control()) {
                 let settled = self.settle(rt, gate, &mut *guard, at, slot, request);

@@ -4,9 +4,9 @@ ghost use Rattle.std.specs.Prelude.{◌≡◌, ◌≤◌, [], length, map, All, 
 ghost use Rattle.script_defs.specs.Scripts.{IsScript};
 ghost use Rattle.script_defs.specs.Transcripts.{ArePrintable};
 ghost use Rattle.session_defs.specs.Transcripts.{TranscriptOf};
-ghost use Rattle.slot_live.specs.Places.{IsNewAt};
+ghost use Rattle.live_table.specs.Places.{IsNewAt};
 ghost use Rattle.slot_live.specs.Shares.{IsBlankShare};
-ghost use Rattle.slot_live.specs.Values.{shape_of};
+ghost use Rattle.live_table.specs.Values.{shape_of};
 ghost use Rattle.run_script.specs.Views.{script_of};
 ghost use Rattle.run_script.specs.Replies.{reply_of, transcript_of};
 ghost use Rattle.run_actors.specs.Loading.{contents_of, CanRun, AreOfKinds};

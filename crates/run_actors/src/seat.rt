@@ -4,7 +4,7 @@ ghost use Rattle.std.specs.Prelude.{◌≡◌, ◌<◌, [], Some, IsTrue, IfOk, 
 ghost use mathlib.Core.List.{IsPrefix};
 ghost use Rattle.fabric_defs.specs.Geometries.{cell_count};
 ghost use Rattle.journal_defs.specs.Legality.{Legal};
-ghost use Rattle.slot_live.specs.Answers.{IsCycle, IsSweep, IsLook};
+ghost use Rattle.live_table.specs.Answers.{IsCycle, IsSweep, IsLook};
 ghost use Rattle.slot_live.specs.Shares.{IsBlankShare};
 ghost use Rattle.run_actors.specs.Seats.{SeesMore, LooksOn};
 
@@ -44,7 +44,7 @@ fn cycle_of<R: Wait>(rt: &R, evaluator: &mut Evaluator, slot: u32, bits: Bits, p
     ensures more { SeesMore evaluator.old evaluator.new }
     ensures answer { IsCycle evaluator.new.seen slot bits probe result }
 {
-    for _ in rt.forever() {
+    for _again in rt.forever() {
         if let Ok(cycle) = evaluator.cycle(slot, bits, probe) {
             return cycle;
         }
@@ -66,7 +66,7 @@ fn sweep_of<R: Wait>(
         evaluator.new.shape.limit evaluator.new.seen }
     ensures answer { IsSweep evaluator.new.seen slot first count result }
 {
-    for _ in rt.forever() {
+    for _again in rt.forever() {
         if let Ok(sweep) = evaluator.sweep(slot, first, count) {
             return sweep;
         }
@@ -80,7 +80,7 @@ fn look_of<R: Wait>(rt: &R, evaluator: &mut Evaluator, slot: u32) -> Result<Look
     ensures more { SeesMore evaluator.old evaluator.new }
     ensures answer { IfOk result (IsLook evaluator.new.seen slot) }
 {
-    for _ in rt.forever() {
+    for _again in rt.forever() {
         match evaluator.ticket(slot) {
             Ok(look) => return Ok(look),
             Err(ReadEnd::NoMemory) => return Err(NoMemory),
@@ -96,7 +96,7 @@ fn learn_front<R: Wait>(rt: &R, evaluator: &mut Evaluator, front: &Front)
     ensures more { SeesMore evaluator.old evaluator.new }
     ensures learned { IsPrefix front.now.journal evaluator.new.seen }
 {
-    for _ in rt.forever() {
+    for _again in rt.forever() {
         if evaluator.learn(front).is_ok() {
             return;
         }

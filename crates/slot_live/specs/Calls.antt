@@ -1,15 +1,11 @@
 -- What the calls of a control do that would make an entry.
-use Rattle.std.specs.Prelude.{◌≡◌, ◌≢◌, ℕ, ◌+◌, ◌<◌, true, false, List, length, Option, None, Some}
+use Rattle.std.specs.Prelude.{◌≡◌, ◌≢◌, ℕ, ◌<◌, true, false, List, length, None, Some}
 use Rattle.net_defs.specs.Networks.{Network}
 use Rattle.fabric_defs.specs.Configurations.{ConfigValue}
-use Rattle.fabric_defs.specs.Geometries.{GeometryValue}
-use Rattle.miter_defs.specs.Equality.{Equal}
 use Rattle.journal_defs.specs.Journals.{Change, agreed, installed, evicted, EntryValue, spec_at}
-use Rattle.slot_core.specs.Values.{TableValue}
-use Rattle.slot_live.specs.Values.{FrontValue, ControlValue, with_entry}
-use Rattle.slot_live.specs.declared.judging.Standing.{Standing}
-use Rattle.slot_live.specs.declared.judging.Standing.TheVariants as standings
-use Rattle.slot_live.specs.declared.receipt.Receipt.{Receipt}
+use Rattle.live_table.specs.Values.{ControlValue}
+use Rattle.live_table.specs.Publishing.{IsPublished}
+use Rattle.live_table.specs.declared.receipt.Receipt.{Receipt}
 use Rattle.slot_live.specs.declared.errors.ControlError.{ControlError}
 use Rattle.slot_live.specs.declared.errors.ControlError.TheVariants.{Unagreed, Stale, Full, Broken, NoMemory}
 
@@ -23,18 +19,6 @@ installation lane turn slot net config =
 
 abbrev pub eviction : ℕ → ℕ → ℕ → EntryValue
 eviction lane turn slot = record { change = evicted; lane = lane; turn = turn; slot = slot }
-
--- an installed configuration is equal to its network
-abbrev pub IsChecked : Change → Type 0
-IsChecked (agreed net) = Unit {0}
-IsChecked (installed net config) = Equal net config
-IsChecked evicted = Unit {0}
-
--- an installed configuration is one of this fabric
-abbrev pub IsOn : GeometryValue → Change → Type 0
-IsOn g (agreed net) = Unit {0}
-IsOn g (installed net config) = config.geometry ≡ g
-IsOn g evicted = Unit {0}
 
 -- where something is installed, its network is the one that is agreed for the slot
 abbrev pub IsCurrent : List EntryValue → ℕ → Change → Type 0
@@ -54,15 +38,12 @@ HasOtherNet h slot (agreed net) = ⊥
 HasOtherNet h slot (installed net config) = (other : Network) × (spec_at h slot ≡ Some other) × (other ≢ net)
 HasOtherNet h slot evicted = ⊥
 
--- the entry was made: no cause of a refusal was there, the table has this entry more, and the receipt has its
--- number and a front that stands for the whole journal
+-- no cause of a refusal was there, and the entry was published
 pub record IsMade (old new : ControlValue) (e : EntryValue) (r : Receipt) : Type 0 where
   pub current : IsCurrent old.table.journal e.slot e.change
   pub room : length old.table.journal < old.table.limit
   pub sound : old.broken ≡ false
-  pub control : new ≡ record old { table = with_entry old.table e }
-  pub number : r.at ≡ length old.table.journal + 1
-  pub front : r.front ≡ record { book = new.book; journal = new.table.journal }
+  pub published : IsPublished old new e r
 
 -- the cause of each refusal, of which the first that is there is answered. Want of memory has none.
 abbrev pub IsDue : ControlValue → EntryValue → ControlError → Type 0
@@ -83,9 +64,3 @@ after_refusal c NoMemory = record c { broken = true }
 -- the entry was refused by its cause, and the table stayed as it was
 abbrev pub Refuses : ControlValue → ControlValue → EntryValue → ControlError → Type 0
 Refuses old new e error = IsDue old e error × (new ≡ after_refusal old error)
-
--- how a network stands to the one that is agreed, where one is
-abbrev pub IsStanding : Option Network → Network → Standing → Type 0
-IsStanding agreed net standings.Agreed = agreed ≡ Some net
-IsStanding agreed net standings.Stale = (other : Network) × (agreed ≡ Some other) × (other ≢ net)
-IsStanding agreed net standings.Unagreed = agreed ≡ None

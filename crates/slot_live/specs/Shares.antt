@@ -1,7 +1,7 @@
 -- The shares of the parties in the count of entries.
 use Rattle.std.specs.Prelude.{◌≡◌, ◌+◌, Result, MatchResult}
 use Rattle.core.specs.declared.ledger.Share.{Share}
-use Rattle.slot_live.specs.declared.receipt.Receipt.{Receipt}
+use Rattle.live_table.specs.declared.receipt.Receipt.{Receipt}
 use Rattle.slot_live.specs.declared.errors.ControlError.{ControlError}
 
 -- one part of the ledger, and no entry yet

@@ -1,14 +1,14 @@
 ghost use Rattle.std.specs.Prelude.{◌≡◌, ◌+◌, ◌≤◌, ◌<◌, [], length, All, IfOk, MatchResult};
 ghost use Rattle.std.specs.Arc.{arc_value};
 ghost use Rattle.miter_defs.specs.Equality.{FitsPads};
-ghost use Rattle.slot_live.specs.Values.{shape_of};
+ghost use Rattle.live_table.specs.Values.{shape_of};
 ghost use Rattle.slot_live.specs.Calls.{agreement, installation, eviction, IsMade, Refuses};
 ghost use Rattle.slot_live.specs.Shares.{IsBlankShare, Counts};
 
 use crate::control::Control;
 use crate::errors::ControlError;
 use crate::naming::Naming;
-use crate::receipt::Receipt;
+use live_table::Receipt;
 use netlist::Net;
 use pch_base::NoMemory;
 use std::alloc::Global;
@@ -31,7 +31,7 @@ pub struct Counted<L: Naming> {
 
 impl<L: Naming> Model for Counted<L> {
     ghost use Rattle.std.specs.Prelude.{◌≡◌, length};
-    ghost use Rattle.slot_live.specs.Values.{ControlValue, shape_of};
+    ghost use Rattle.live_table.specs.Values.{ControlValue, shape_of};
 
     ghost Value = { ControlValue };
 

@@ -1,6 +1,5 @@
 //! What calls answer in place of their value.
 
-use crate::place::Gone;
 use pch_base::NoMemory;
 use thiserror::Error;
 
@@ -30,33 +29,6 @@ pub enum OpenError {
     /// Memory was wanting.
     #[error("no memory")]
     NoMemory,
-}
-
-/// Why an evaluator that copies a net has no answer.
-#[derive(Clone, Copy, Debug, Drop, Error, PartialEq, Eq)]
-pub enum ReadEnd {
-    /// The published copies refused to be entered.
-    #[error("refused to enter")]
-    Gone,
-    /// Memory was wanting. The evaluator may have seen more than before.
-    #[error("no memory")]
-    NoMemory,
-}
-
-impl From<Gone> for ReadEnd {
-    ghost from_gives = { λ _ e. e ≡ ReadEnd.Gone };
-
-    fn from(_: Gone) -> ReadEnd {
-        ReadEnd::Gone
-    }
-}
-
-impl From<NoMemory> for ReadEnd {
-    ghost from_gives = { λ _ e. e ≡ ReadEnd.NoMemory };
-
-    fn from(_: NoMemory) -> ReadEnd {
-        ReadEnd::NoMemory
-    }
 }
 
 impl From<NoMemory> for OpenError {

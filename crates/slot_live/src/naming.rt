@@ -5,7 +5,7 @@ use std::sync::ledger::Ledger;
 /// contracts alone: whoever calls a function over such a name picks its members.
 pub trait Naming: Ledger {
     ghost use Rattle.logbook.specs.Pages.{Book};
-    ghost use Rattle.slot_live.specs.Values.{Shape};
+    ghost use Rattle.live_table.specs.Values.{Shape};
 
     // The book of the history of this `open`.
     ghost book: { Book };
@@ -14,7 +14,7 @@ pub trait Naming: Ledger {
 }
 
 impl Naming for Brand {
-    ghost use Rattle.slot_live.specs.Values.{no_shape};
+    ghost use Rattle.live_table.specs.Values.{no_shape};
 
     ghost book = { record { number = 0; log_name = 0; cells_name = 0 } };
 

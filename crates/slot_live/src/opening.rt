@@ -1,9 +1,9 @@
 ghost use Rattle.std.specs.Prelude.{◌≡◌, ◌≤◌, [], false, length, All, IfOk};
-ghost use Rattle.slot_live.specs.Places.{IsNewAt};
+ghost use Rattle.live_table.specs.Places.{IsNewAt};
 
 use crate::control::Control;
 use crate::errors::OpenError;
-use crate::live::Evaluator;
+use live_table::Evaluator;
 use fabric::Geometry;
 use std::alloc::Global;
 use std::sync::Wait;

@@ -4,7 +4,7 @@ ghost use Rattle.std.specs.Prelude.{◌≡◌, ◌<◌, IsTrue, length, Some, No
 ghost use Rattle.miter_defs.specs.Equality.{Equal};
 ghost use Rattle.journal_defs.specs.Journals.{spec_at};
 ghost use Rattle.journal_defs.specs.Legality.{IsInstallable};
-ghost use Rattle.slot_live.specs.Calls.{IsStanding};
+ghost use Rattle.live_table.specs.Changes.{IsStanding};
 
 use fabric::Config;
 use netlist::{Net, same};
@@ -12,7 +12,7 @@ use slot_core::Table;
 
 /// How a net stands to the one that is agreed for a slot.
 #[derive(Clone, Copy, Debug, Drop, PartialEq, Eq)]
-pub(crate) enum Standing {
+pub enum Standing {
     /// It is the agreed one.
     Agreed,
     /// Another one is agreed.
@@ -22,7 +22,7 @@ pub(crate) enum Standing {
 }
 
 /// How the net stands to the agreed one of the slot.
-pub(crate) fn standing_of(t: &Table, slot: u32, net: &Net) -> Standing
+pub fn standing_of(t: &Table, slot: u32, net: &Net) -> Standing
     requires { slot < t.now.slots }
     ensures { IsStanding (spec_at t.now.journal slot) net.now result }
 {

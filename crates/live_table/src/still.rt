@@ -1,5 +1,5 @@
 ghost use Rattle.std.specs.Prelude.{◌≡◌, [], None};
-ghost use Rattle.slot_live.specs.Values.{shape_of};
+ghost use Rattle.live_table.specs.Values.{shape_of};
 
 use crate::place::{Gone, Place, Task};
 use slot_core::Table;
@@ -15,8 +15,8 @@ pub struct StillPlace {
 
 impl Model for StillPlace {
     ghost use Rattle.std.specs.Prelude.{None};
-    ghost use Rattle.slot_live.specs.Values.{PlaceValue, shape_of};
-    ghost use Rattle.slot_live.specs.Places.{seen_in};
+    ghost use Rattle.live_table.specs.Values.{PlaceValue, shape_of};
+    ghost use Rattle.live_table.specs.Places.{seen_in};
 
     ghost Value = { PlaceValue };
 

@@ -1,25 +1,26 @@
 //! A place at the published copies, and the evaluators there.
 
-ghost use Rattle.std.specs.Prelude.{◌≡◌, ◌<◌, length, Some, [], MatchResult, MatchOption};
+ghost use Rattle.std.specs.Prelude.{◌≡◌, ◌≤◌, [], length, Some, None, MatchResult, MatchOption};
+ghost use Rattle.pch_io.specs.Outside.{Rose};
 ghost use mathlib.Core.List.{IsPrefix};
 ghost use Rattle.left_right.specs.Sides.{view};
 ghost use Rattle.slot_core.specs.Values.{TableValue};
-ghost use Rattle.slot_live.specs.Values.{shape_of, table_of, FrontValue};
-ghost use Rattle.slot_live.specs.Places.{Misses, Learns};
-ghost use Rattle.slot_live.specs.Rule.{shape_at, IsAt, IsMet, IsLeft};
+ghost use Rattle.live_table.specs.Values.{shape_of, table_of, FrontValue};
+ghost use Rattle.live_table.specs.Places.{Misses, Learns};
+ghost use Rattle.live_table.specs.Rule.{seen_by, shape_at, IsAt, IsMet, IsLeft};
 
 use crate::evaluator::EvaluatorOver;
 use crate::front::Front;
 use crate::place::{Gone, Place, Task};
 use crate::rule::{Meet, TableReader};
-use core::mem::replace_with;
 use std::marker::Model;
 
 /// A reader of the published copies, which counts the entries that were refused to it. It waits for
 /// nobody.
 #[derive(Drop)]
 pub struct LivePlace {
-    reader: TableReader,
+    /// The reader, which is here between two calls.
+    seat: Option<TableReader>,
     /// Stands for the entries that were seen.
     front: Front,
     /// How often the place was refused. The count stands still at its type's end.
@@ -28,20 +29,20 @@ pub struct LivePlace {
 
 impl Model for LivePlace {
     ghost use Rattle.std.specs.Prelude.{Some};
-    ghost use Rattle.left_right.specs.Sides.{view};
-    ghost use Rattle.slot_live.specs.Values.{PlaceValue};
-    ghost use Rattle.slot_live.specs.Rule.{shape_at, IsAt};
+    ghost use Rattle.left_right.specs.Sides.{view as view_of};
+    ghost use Rattle.live_table.specs.Values.{PlaceValue};
+    ghost use Rattle.live_table.specs.Rule.{seen_by, shape_at, IsAt};
 
     ghost Value = { PlaceValue };
 
     ghost view = { λ p. record {
       book = Some p.front.book;
-      shape = shape_at (view p.reader.place);
+      shape = shape_at (seen_by (λ r. view_of r.place) p.seat);
       seen = p.front.journal;
       refusals = p.refusals;
     } };
 
-    ghost invariant = { λ p. IsAt (view p.reader.place) p.front };
+    ghost invariant = { λ p. IsAt (seen_by (λ r. view_of r.place) p.seat) p.front };
 }
 
 /// Who asks the slots of a device while entries are made.
@@ -91,6 +92,56 @@ fn meet_front(reader: TableReader, learned: &Front) -> (TableReader, Option<Fron
     }
 }
 
+/// Enters from a seat, whose reader is taken for as long.
+fn visit<T: Task>(seat: &mut Option<TableReader>, task: &mut T) -> Option<Front>
+    requires can { (t : TableValue) (f : FrontValue) → IsAt (seen_by (λ r. view r.place) seat.old) f
+        → shape_of t ≡ shape_at (seen_by (λ r. view r.place) seat.old) → T.can task.old t }
+    requires known { (f : FrontValue) × IsAt (seen_by (λ r. view r.place) seat.old) f }
+    ensures { MatchOption result
+        ((seen_by (λ r. view r.place) seat.new ≡ seen_by (λ r. view r.place) seat.old)
+        × (task.new ≡ task.old))
+        (λ f. IsMet (seen_by (λ r. view r.place) seat.old) (seen_by (λ r. view r.place) seat.new) f
+        × T.does task.old (table_of (shape_at (seen_by (λ r. view r.place) seat.new)) f.journal)
+        task.new) }
+{
+    let reader = seat.take()?;
+    let (reader, met) = meet(reader, task);
+    *seat = Some(reader);
+    met
+}
+
+/// Enters from a seat, and answers the front of the copy where it has all of the given one.
+fn visit_front(seat: &mut Option<TableReader>, learned: &Front) -> Option<Front>
+    requires { IsAt (seen_by (λ r. view r.place) seat.old) (record learned.now { journal = [] }) }
+    ensures { MatchOption result
+        (IsLeft (seen_by (λ r. view r.place) seat.old) (seen_by (λ r. view r.place) seat.new))
+        (λ f. IsMet (seen_by (λ r. view r.place) seat.old) (seen_by (λ r. view r.place) seat.new) f
+        × IsPrefix learned.now.journal f.journal) }
+{
+    let reader = seat.take()?;
+    let (reader, met) = meet_front(reader, learned);
+    *seat = Some(reader);
+    met
+}
+
+/// Keeps the front that was met, or counts a refusal where there is none.
+fn keep(kept: &mut Front, refusals: &mut u64, met: Option<Front>) -> Result<(), Gone>
+    ensures kept { MatchResult result (λ _. (met ≡ Some kept.new) × (refusals.new ≡ refusals.old))
+        (λ _. (met ≡ None) × (kept.new ≡ kept.old) × Rose refusals.old refusals.new) }
+    ensures counted { refusals.old ≤ refusals.new }
+{
+    match met {
+        Some(front) => {
+            *kept = front;
+            Ok(())
+        }
+        None => {
+            *refusals = refusals.saturating_add(1);
+            Err(Gone)
+        }
+    }
+}
+
 impl LivePlace {
     /// A place at the reader, which was told of the published table, that has seen as much as the
     /// front.
@@ -104,7 +155,7 @@ impl LivePlace {
         } }
     {
         LivePlace {
-            reader,
+            seat: Some(reader),
             front,
             refusals: 0,
         }
@@ -117,20 +168,6 @@ impl LivePlace {
         self.front.len()
     }
 
-    /// Keeps the front of the copy that was entered, or counts a refusal.
-    fn keep(&mut self, front: Option<Front>) -> Result<(), Gone> {
-        match front {
-            Some(front) => {
-                self.front = front;
-                Ok(())
-            }
-            None => {
-                self.refusals = self.refusals.saturating_add(1);
-                Err(Gone)
-            }
-        }
-    }
-
     /// Takes the front in, which is of the same history, and enters one table that has all of it.
     /// `Gone` comes only where the count of refusals rises or stands at its end, and leaves what was
     /// seen as it was.
@@ -139,8 +176,8 @@ impl LivePlace {
         ensures { MatchResult result (λ _. Learns f.now self.old self.new)
             (λ _. Misses self.old self.new) }
     {
-        let met = replace_with(&mut self.reader, f, |reader, f| meet_front(reader, f));
-        self.keep(met)
+        let met = visit_front(&mut self.seat, f);
+        keep(&mut self.front, &mut self.refusals, met)
     }
 }
 
@@ -148,8 +185,8 @@ impl Place for LivePlace {
     ghost value = { λ p. p };
 
     fn enter<T: Task>(&mut self, task: &mut T) -> Result<(), Gone> {
-        let met = replace_with(&mut self.reader, task, |reader, task| meet(reader, task));
-        self.keep(met)
+        let met = visit(&mut self.seat, task);
+        keep(&mut self.front, &mut self.refusals, met)
     }
 }
 

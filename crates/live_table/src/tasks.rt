@@ -1,7 +1,7 @@
 //! What evaluators do with the table that they enter. Each task has its room, is set before a place is
 //! entered, and has its answer afterwards; none takes memory but `Ticketing`, which copies a net.
 
-ghost use Rattle.std.specs.Prelude.{◌≡◌, ◌<◌, length, IfOk, Ok, None};
+ghost use Rattle.std.specs.Prelude.{◌≡◌, ℕ, ◌<◌, length, IfOk, Ok, None};
 ghost use Rattle.std.specs.Arc.{arc_value};
 ghost use Rattle.std.specs.Option.{option_map};
 ghost use Rattle.miter_defs.specs.Equality.{FitsPads};
@@ -9,7 +9,7 @@ ghost use Rattle.fabric_defs.specs.Geometries.{cell_count};
 ghost use Rattle.journal_defs.specs.Journals.{spec_at, agreement_at};
 ghost use Rattle.journal_defs.specs.Replies.{Runs};
 ghost use Rattle.slot_core.specs.Values.{TableValue};
-ghost use Rattle.slot_live.specs.Answers.{IsCycle, IsSweep};
+ghost use Rattle.live_table.specs.Answers.{IsCycle, IsSweep};
 
 use crate::answers::Sweep;
 use crate::place::Task;

@@ -3,7 +3,7 @@
 ghost use Rattle.std.specs.Prelude.{◌≡◌, ◌<◌, length, IsTrue};
 ghost use Rattle.journal_defs.specs.Legality.{CanFollow};
 ghost use Rattle.slot_core.specs.Entries.{entry_value};
-ghost use Rattle.slot_live.specs.Calls.{IsChecked};
+ghost use Rattle.live_table.specs.Changes.{IsChecked};
 
 use crate::front::Front;
 use crate::judging::installs_well;
@@ -29,8 +29,8 @@ pub(crate) struct Change {
 
 impl Model for Change {
     ghost use Rattle.slot_core.specs.Entries.{entry_value};
-    ghost use Rattle.slot_live.specs.Values.{ChangeValue};
-    ghost use Rattle.slot_live.specs.Calls.{IsChecked};
+    ghost use Rattle.live_table.specs.Values.{ChangeValue};
+    ghost use Rattle.live_table.specs.Changes.{IsChecked};
 
     ghost Value = { ChangeValue };
 
@@ -71,7 +71,7 @@ fn can_take(t: &Table, e: &Entry) -> bool
 }
 
 impl Absorb<Change> for Published {
-    ghost use Rattle.slot_live.specs.Values.{with_entry};
+    ghost use Rattle.live_table.specs.Values.{with_entry};
 
     type State = Published;
 

@@ -5,9 +5,9 @@ use Rattle.pch_io.specs.Outside.{Rose}
 use Rattle.journal_defs.specs.Journals.{EntryValue}
 use Rattle.journal_defs.specs.Legality.{Legal}
 use Rattle.slot_core.specs.Values.{TableValue}
-use Rattle.slot_live.specs.declared.errors.ReadEnd.{ReadEnd}
-use Rattle.slot_live.specs.declared.errors.ReadEnd.TheVariants.{Gone, NoMemory}
-use Rattle.slot_live.specs.Values.{shape_of, table_of, FrontValue, PlaceValue, ControlValue}
+use Rattle.live_table.specs.declared.read_end.ReadEnd.{ReadEnd}
+use Rattle.live_table.specs.declared.read_end.ReadEnd.TheVariants.{Gone, NoMemory}
+use Rattle.live_table.specs.Values.{shape_of, table_of, FrontValue, PlaceValue, ControlValue}
 
 -- it is of the same history and the same shape, and was refused no less often
 pub record StaysAt (old new : PlaceValue) : Type 0 where

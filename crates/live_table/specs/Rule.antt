@@ -1,11 +1,11 @@
 -- The rule of the published copies, and what each kind of step keeps of it.
-use Rattle.std.specs.Prelude.{◌≡◌, ℕ, List, [], Option, Some, None}
+use Rattle.std.specs.Prelude.{◌≡◌, ℕ, List, [], ◌∷◌, ◌++◌, Option, Some, None}
 use mathlib.Core.List.{IsPrefix}
 use mathlib.Core.Option.{some}
 use lib.ListN.{get_elem?}
 use Rattle.slot_core.specs.Tables.{IsLegal}
-use Rattle.slot_live.specs.Values.{Shape, no_shape, shape_of, FrontValue}
-use Rattle.slot_live.specs.declared.published.Published.{Published}
+use Rattle.live_table.specs.Values.{Shape, no_shape, shape_of, with_entry, FrontValue, ChangeValue}
+use Rattle.live_table.specs.declared.published.Published.{Published}
 
 -- the front of the copy stands for the journal of its table
 abbrev pub IsWhole : Published → Type 0
@@ -32,6 +32,11 @@ pub record IsKept (x : Published) (views : List (Option Published)) : Type 0 whe
 abbrev pub Meets : Option Published → Published → Published → Option Published → Type 0
 Meets v x y w = IsWhole y × IsLaterThan v y × (w ≡ Some y)
 
+-- what a party has seen last, where it is there
+abbrev pub seen_by : {X : Type 0} → (X → Option Published) → Option X → Option Published
+seen_by sees None = None
+seen_by sees (Some x) = sees x
+
 -- the shape of the copy that was seen last, if any was
 abbrev pub shape_at : Option Published → Shape
 shape_at None = no_shape
@@ -55,3 +60,16 @@ pub record IsMet (v w : Option Published) (f : FrontValue) : Type 0 where
 abbrev pub IsLeft : Option Published → Option Published → Type 0
 IsLeft v None = v ≡ None
 IsLeft v (Some y) = IsLaterThan v y
+
+-- a change goes on from the copy: its front has its entry more
+abbrev pub GoesOn : Published → ChangeValue → Type 0
+GoesOn x c = c.front ≡ record { book = x.front.book; journal = x.front.journal ++ c.entry ∷ [] }
+
+-- one change is pending, and goes on from the copy
+abbrev pub IsPending : Published → List ChangeValue → Type 0
+IsPending x pending = (c : ChangeValue) × (pending ≡ c ∷ []) × GoesOn x c
+
+-- the second copy is the first with the one change that is pending
+abbrev pub Applies : Published → List ChangeValue → Published → Type 0
+Applies x pending y = (c : ChangeValue) → pending ≡ c ∷ []
+    → y ≡ record { table = with_entry x.table c.entry; front = c.front }

@@ -3,7 +3,7 @@
 
 ghost use Rattle.std.specs.Prelude.{◌≡◌, ◌+◌, ◌-◌, ◌^◌, ◌<◌, [], ◌∷◌, ◌++◌, length, IsTrue, IfSome};
 ghost use mathlib.Core.List.{IsPrefix};
-ghost use Rattle.slot_live.specs.Histories.{head_of};
+ghost use Rattle.live_table.specs.Histories.{head_of};
 
 use logbook::{Gain, Offer, Plain, Play, Rule, Seen, Start, Word};
 use slot_core::Ready;
@@ -15,7 +15,7 @@ pub(crate) struct Counting;
 impl Rule<Ready, u64> for Counting {
     ghost use Rattle.std.specs.Prelude.{[]};
     ghost use base.Fml.{ftrue};
-    ghost use Rattle.slot_live.specs.Histories.{IsCounted};
+    ghost use Rattle.live_table.specs.Histories.{IsCounted};
 
     ghost holds = { λ cells log. IsCounted cells log };
 
@@ -43,7 +43,7 @@ impl Gain<Ready, u64> for Nothing {
 struct Add;
 
 impl Play<Ready, u64> for Add {
-    ghost use Rattle.slot_live.specs.Histories.{Adds};
+    ghost use Rattle.live_table.specs.Histories.{Adds};
 
     ghost then = { Adds };
 }
@@ -70,7 +70,7 @@ pub struct Front {
 
 impl Model for Front {
     ghost use Rattle.std.specs.Prelude.{◌≡◌, length};
-    ghost use Rattle.slot_live.specs.Values.{FrontValue};
+    ghost use Rattle.live_table.specs.Values.{FrontValue};
 
     ghost Value = { FrontValue };
 

@@ -2,12 +2,12 @@
 
 ghost use Rattle.std.specs.Prelude.{◌≡◌, ◌⊎◌, ◌<◌, [], length, IfOk, MatchResult};
 ghost use Rattle.fabric_defs.specs.Geometries.{cell_count};
-ghost use Rattle.slot_live.specs.Places.{Sees, Misses, Ends};
-ghost use Rattle.slot_live.specs.Answers.{IsCycle, IsSweep, IsLook, IsSince};
+ghost use Rattle.live_table.specs.Places.{Sees, Misses, Ends};
+ghost use Rattle.live_table.specs.Answers.{IsCycle, IsSweep, IsLook, IsSince};
 
 use crate::answers::{Look, Since, Sweep};
-use crate::errors::ReadEnd;
 use crate::place::{Gone, Place};
+use crate::read_end::ReadEnd;
 use crate::tasks::{Cycling, Desk, Sweeping, Ticketing};
 use eval_lanes::LaneWires;
 use fabric::{Geometry, Wires};
@@ -31,7 +31,7 @@ pub struct EvaluatorOver<P: Place + Drop> {
 
 impl<P: Place + Drop> Model for EvaluatorOver<P> {
     ghost use Rattle.std.specs.Prelude.{◌≡◌, length};
-    ghost use Rattle.slot_live.specs.Values.{PlaceValue};
+    ghost use Rattle.live_table.specs.Values.{PlaceValue};
 
     ghost Value = { PlaceValue };
 

@@ -6,11 +6,11 @@ use Rattle.journal_defs.specs.Journals.{EntryValue, spec_at, agreement_at}
 use Rattle.journal_defs.specs.Replies.{cycle, sweep, ticket, vacant, ones, agreed, unagreed, ReplyAt}
 use Rattle.slot_core.specs.declared.cycle.Cycle.{Cycle}
 use Rattle.slot_core.specs.Cycles.{IsReplyTo}
-use Rattle.slot_live.specs.declared.answers.Sweep.{Sweep}
-use Rattle.slot_live.specs.declared.answers.Sweep.TheVariants.{Ones, Vacant}
-use Rattle.slot_live.specs.declared.answers.Look.{Look}
-use Rattle.slot_live.specs.declared.answers.Look.TheVariants.{Agreed, Unagreed}
-use Rattle.slot_live.specs.declared.answers.Since.{Since}
+use Rattle.live_table.specs.declared.answers.Sweep.{Sweep}
+use Rattle.live_table.specs.declared.answers.Sweep.TheVariants.{Ones, Vacant}
+use Rattle.live_table.specs.declared.answers.Look.{Look}
+use Rattle.live_table.specs.declared.answers.Look.TheVariants.{Agreed, Unagreed}
+use Rattle.live_table.specs.declared.answers.Since.{Since}
 
 -- the answer is the journal's reply to a cycle of the slot, with these input bits and this probed cell
 abbrev pub IsCycle : List EntryValue → ℕ → List ℕ → ℕ → Cycle → Type 0

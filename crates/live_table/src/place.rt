@@ -2,8 +2,8 @@
 
 ghost use Rattle.std.specs.Prelude.{◌≡◌, MatchResult};
 ghost use Rattle.slot_core.specs.Values.{TableValue};
-ghost use Rattle.slot_live.specs.Values.{shape_of, PlaceValue};
-ghost use Rattle.slot_live.specs.Places.{Sees, Misses, seen_table};
+ghost use Rattle.live_table.specs.Values.{shape_of, PlaceValue};
+ghost use Rattle.live_table.specs.Places.{Sees, Misses, seen_table};
 
 use slot_core::Table;
 

@@ -15,7 +15,7 @@ pub(crate) struct OneJournal;
 
 impl Protocol<Published, View> for OneJournal {
     ghost use Rattle.std.specs.Prelude.{None};
-    ghost use Rattle.slot_live.specs.Rule.{IsKept};
+    ghost use Rattle.live_table.specs.Rule.{IsKept};
 
     ghost holds = { IsKept };
 
@@ -26,7 +26,7 @@ impl Protocol<Published, View> for OneJournal {
 pub(crate) struct Meet;
 
 impl Outcome<Published, View> for Meet {
-    ghost use Rattle.slot_live.specs.Rule.{Meets};
+    ghost use Rattle.live_table.specs.Rule.{Meets};
 
     ghost then = { Meets };
 }

@@ -166,8 +166,10 @@ class Session:
         return self.sweep(slot, int(more[0]), int(more[1]))
 
     def transcript(self):
-        replies = [[self.answer(lane, turn, command) for turn, command in enumerate(commands)]
-                   for lane, commands in enumerate(self.lanes)]
+        return self.text([[self.answer(lane, turn, command) for turn, command in enumerate(commands)]
+                          for lane, commands in enumerate(self.lanes)])
+
+    def text(self, replies):
         lines = ["journal %d" % len(self.journal)]
         lines += ["%d %s %d %d %d" % (number, *entry[:4]) for number, entry in enumerate(self.journal, 1)]
         for lane, said in enumerate(replies):
@@ -190,18 +192,24 @@ def fabric_values(config, bits):
     return [channel[word - 1] if word else 0 for word in config.pads], cells
 
 
-def run(folder, name):
-    """What `run` is to print, and its status, where all files are there."""
-    read = lambda name: open(os.path.join(folder, name), "rb").read()
-    text = read(name)
-    said = plain_script.read(text)
-    if said.strip().isdigit() or said == "too-long\n":
-        return "script %s %s" % (name, said), 9
+def script_of(text):
+    """The value of a script, or None where it has a fault."""
+    if not plain_script.read(text).startswith("fabric"):
+        return None
     script = plain_script.Script()
     for line in plain_script.lines_of(text):
         words = plain_script.words_of(line)
         if words:
             script.line(words)
+    return script
+
+
+def run(folder, name):
+    """What `run` is to print, and its status, where all files are there."""
+    read = lambda name: open(os.path.join(folder, name), "rb").read()
+    script = script_of(read(name))
+    if script is None:
+        return "script %s %s" % (name, plain_script.read(read(name))), 9
     files = [Net(read(name).decode()) if kind == "spec" else read(name) for kind, name in script.files]
     return Session(script, files).transcript(), 0
 
@@ -308,8 +316,8 @@ def spoil(lines):
         lines[at] = " ".join(words)
 
 
-def random_session(folder):
-    """Writes the files of a random session and its script, which has the name `s`."""
+def random_session(folder, lanes):
+    """Writes the files of a random session with so many lanes and its script, which has the name `s`."""
     geometry, slots = [3, 4, 8, 4, 3], random.randrange(1, 3)
     specs, bundles = ["a.blif", "b.blif"], ["a.pch", "b.pch", "c.pch"]
     texts = [random_design() for _ in specs]
@@ -319,7 +327,7 @@ def random_session(folder):
     lines = [" ".join(["fabric", *map(str, geometry)]), "slots %d" % slots, "limit %d" % random.choice([1, 2, 5, 40]),
              "workers %d" % random.choice([1, 2, 3, 64])]
     widths = [*(Net(text).inputs for text in texts), random.randrange(5)]
-    for _ in range(random.randrange(1, 4)):
+    for _ in range(lanes):
         commands = [random_command(geometry, slots, specs, bundles, widths) for _ in range(random.randrange(12))]
         if random.randrange(3):
             name = random.choice("ab")
@@ -339,7 +347,7 @@ def compare(program, rounds, seed):
     seen = {}
     for _ in range(rounds):
         with tempfile.TemporaryDirectory() as folder:
-            script = random_session(folder)
+            script = random_session(folder, random.randrange(1, 4))
             want, status = run(folder, "s")
             if status == 9:
                 seen["faulty"] = seen.get("faulty", 0) + 1

@@ -1,12 +1,10 @@
-ghost use Rattle.std.specs.Prelude.{◌≡◌, ◌==◌, ◌<◌, ◌≤◌, ◌++◌, ℕ, List, length, map, Ok};
+ghost use Rattle.std.specs.Prelude.{◌≡◌, ◌==◌, ◌<◌, ◌≤◌, ◌++◌, ℕ, List, length, map, OnOk};
 ghost use Rattle.std.specs.List.{list_all, position_or_len};
 ghost use Rattle.blif_defs.specs.Words.{is_blank, is_sign, ends_with, is_sound, words};
 ghost use Rattle.blif_defs.specs.Lines.{without_return, without_comment, trimmed, stripped};
-ghost use Rattle.blif_defs.specs.declared.error.BlifError.TheVariants.{NoMemory};
-ghost use Rattle.text_defs.specs.Memory.{Gives};
 ghost use Rattle.blif_read.specs.Views.{texts};
 
-use blif_defs::BlifError;
+use std::alloc::AllocError;
 
 fn is_blank(b: u8) -> bool
     ensures { result ≡ is_blank b }
@@ -49,7 +47,7 @@ pub(crate) fn are_sound(list: &[&[u8]]) -> bool
 }
 
 /// The line without the carriage return at its end.
-fn without_return(line: &[u8]) -> &[u8]
+pub fn without_return(line: &[u8]) -> &[u8]
     ensures { result.now ≡ without_return line.now }
 {
     match line {
@@ -59,7 +57,7 @@ fn without_return(line: &[u8]) -> &[u8]
 }
 
 /// The number of bytes before the first `c`, or of all where there is none.
-pub(crate) fn len_before(c: u8, bytes: &[u8]) -> usize
+pub fn len_before(c: u8, bytes: &[u8]) -> usize
     ensures len { result ≡ position_or_len (λ b. b == c) bytes.now }
     ensures within { result ≤ length bytes.now }
 {
@@ -72,7 +70,7 @@ pub(crate) fn len_before(c: u8, bytes: &[u8]) -> usize
 }
 
 /// The line up to its first `#`.
-fn without_comment(line: &[u8]) -> &[u8]
+pub fn without_comment(line: &[u8]) -> &[u8]
     ensures { result.now ≡ without_comment line.now }
 {
     &line[..len_before(b'#', line)]
@@ -113,10 +111,9 @@ fn word_len(line: &[u8]) -> usize
     line.len()
 }
 
-/// Appends the words of the line.
-pub(crate) fn push_words<'a>(list: &mut Vec<&'a [u8]>, line: &'a [u8]) -> Result<(), BlifError>
-    ensures { Gives NoMemory (λ _. texts list.new.items) result
-        (Ok (texts list.old.items ++ words line.now)) }
+/// Appends the words of the line: its longest runs of bytes that aren't blanks.
+pub fn push_words<'a>(list: &mut Vec<&'a [u8]>, line: &'a [u8]) -> Result<(), AllocError>
+    ensures { OnOk result (texts list.new.items ≡ texts list.old.items ++ words line.now) }
 {
     let mut rest = line;
     while !rest.is_empty() {

@@ -31,9 +31,13 @@ use std::alloc::Global;
 /// the two parts for literals isn't touched.
 #[derive(Drop)]
 pub struct Room {
+    /// How many literals the clauses with the sign may have together.
     limit: u32,
+    /// The running clause of a chain.
     marks: Marks,
+    /// Room for one clause that is computed.
     clause: Vec<Lit>,
+    /// The clauses with the sign, as far as they were computed.
     computed: Computed,
 }
 
@@ -41,7 +45,9 @@ pub struct Room {
 /// the end of the trace.
 #[derive(Clone, Copy, Debug)]
 pub struct Stop {
+    /// The place, counted from 0; the number of clauses at the end of the trace.
     pub place: u32,
+    /// The fault of the clause there, if it has one.
     pub fault: Option<Verdict>,
 }
 

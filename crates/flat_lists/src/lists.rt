@@ -1,4 +1,4 @@
-ghost use Rattle.std.specs.Prelude.{◌≡◌, ◌+◌, ◌-◌, ◌^◌, ◌<◌, ◌≤◌, ◌++◌, List, [], ◌∷◌, length, take, slice_get, Some, IfOk, OnOk, OnErr};
+ghost use Rattle.std.specs.Prelude.{◌≡◌, ◌+◌, ◌-◌, ◌^◌, ◌<◌, ◌≤◌, ◌++◌, List, [], ◌∷◌, length, take, slice_get, vec_capacity, Some, IfOk, OnOk, OnErr};
 ghost use Rattle.flat_lists.specs.Flat.{Flat, total};
 ghost use Rattle.flat_lists.specs.Ends.{parts, begin_of, EndsInOrder};
 
@@ -85,9 +85,8 @@ impl<T: Copy> FlatLists<T> {
         ensures ok { OnOk result (self.new.lists ≡ self.old.lists ++ list.now ∷ []) }
         ensures err { OnErr result (self.new.lists ≡ self.old.lists) }
     {
-        self.ends.reserve(1)?;
-        self.items.extend_from_slice(list)?;
-        self.ends.push_reserved(self.items.len() as u32);
+        self.reserve(1, list.len())?;
+        self.push_reserved(list);
         Ok(())
     }
 
@@ -112,7 +111,7 @@ impl<T: Copy> FlatLists<T> {
         ensures list_room { self.new.list_room ≡ self.old.list_room }
         ensures item_room { self.old.item_room ≤ self.new.item_room }
     {
-        let _ = self.items.extend_from_slice(list);
+        append(&mut self.items, list);
         self.ends.push_reserved(self.items.len() as u32);
     }
 
@@ -127,6 +126,18 @@ impl<T: Copy> FlatLists<T> {
         let end = begin(&self.ends, last);
         self.ends.truncate(last);
         self.items.truncate(end);
+    }
+}
+
+// Appends items for which there is room. Most lists are short, and copying one by a call takes longer.
+#[inline]
+fn append<T: Copy>(items: &mut Vec<T>, list: &[T])
+    requires { length items.old.items + length list.now ≤ vec_capacity items.old }
+    ensures items { items.new.items ≡ items.old.items ++ list.now }
+    ensures room { vec_capacity items.new ≡ vec_capacity items.old }
+{
+    for &item in list {
+        items.push_reserved(item);
     }
 }
 

@@ -9,6 +9,7 @@ mod calls;
 mod faults;
 mod file_store;
 mod gate;
+mod hold_gate;
 mod mem_sink;
 mod mem_store;
 mod named_files;
@@ -21,6 +22,7 @@ mod whole;
 
 pub use file_store::FileStore;
 pub use gate::{Gate, OpenGate};
+pub use hold_gate::{Hold, HoldGate, Point, PointKind};
 pub use mem_sink::MemSink;
 pub use mem_store::{MemStore, NoFaultStore};
 pub use out_sink::OutSink;

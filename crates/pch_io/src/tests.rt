@@ -82,3 +82,29 @@ fn real_faults_are_named(rt: HostRuntime) -> Result<(), Fail> {
     out.put(b"")?;
     Ok(())
 }
+
+/// The point of a turn of lane 0 before it is answered.
+fn passed(turn: u32) -> Point {
+    Point {
+        kind: PointKind::Pass,
+        lane: 0,
+        turn,
+    }
+}
+
+#[test]
+fn a_gate_holds_until_a_point_was_reached(rt: HostRuntime) -> Result<(), Fail> {
+    let alloc = rt.alloc();
+    let hold = Hold {
+        at: passed(1),
+        until: passed(0),
+    };
+    let gate = HoldGate::new(alloc, vec![in alloc; hold]?)?;
+    gate.pass(&rt, 0, 0);
+    gate.pass(&rt, 0, 1);
+    assert!(rt; !gate.gave_up());
+    let gate = HoldGate::new(alloc, vec![in alloc; hold]?)?;
+    gate.pass(&rt, 0, 1);
+    assert!(rt; gate.gave_up());
+    Ok(())
+}

@@ -29,7 +29,7 @@ use Rattle.session_defs.specs.Points.{before, after}
 use Rattle.session_defs.specs.Replies.{IsAgreedAfter, Meets}
 use Rattle.run_actors.specs.declared.turn.Turn.{Turn}
 use Rattle.session_defs.specs.Transcripts.{made}
-use Rattle.run_actors.specs.Lines.{kind_of}
+use Rattle.session_defs.specs.Lines.{kind_of}
 use Rattle.run_actors.specs.Progress.{IsSameDevice}
 use Rattle.run_actors.specs.Steps.{MakesNone, AnswersAlone, with_entry, Answered}
 

@@ -16,7 +16,7 @@ use Rattle.script_defs.specs.Scripts.{IsFileOf, IsCommand}
 use Rattle.session_defs.specs.Files.{Contents, specification, delivery}
 use Rattle.run_actors.specs.declared.loaded.Loaded.{Loaded}
 use Rattle.run_actors.specs.Loading.{contents_of, IsOfKind, AreOfKinds, IsSpec, IsBundle, CanRun}
-use Rattle.run_actors.proofs.Turns.{take-next}
+use Rattle.lane_laws.proofs.Turns.{take-next}
 
 -- the file of a use is loaded as what it is used as
 loaded-at : (uses : List FileUse) (files : List Contents) (file : ℕ) (u : FileUse) (o : Option FileUse)

@@ -11,7 +11,7 @@ use Rattle.session_defs.specs.Files.{Contents}
 use Rattle.session_defs.specs.Meant.{at_turn}
 use Rattle.session_defs.specs.Points.{before, after, PointsRise}
 use Rattle.session_defs.specs.Replies.{Meets}
-use Rattle.run_actors.proofs.Turns.{slice_get-longer, slice_get-last, slice_get-split, at_turn-split, at_turn-free}
+use Rattle.lane_laws.proofs.Turns.{slice_get-longer, slice_get-last, slice_get-split, at_turn-split, at_turn-free}
 use Rattle.run_actors.proofs.Replies.{meets-later}
 
 -- ---- one reply for each command

@@ -11,10 +11,10 @@ use Rattle.script_defs.specs.Scripts.{ScriptValue}
 use Rattle.script_defs.specs.Transcripts.{ReplyValue}
 use Rattle.session_defs.specs.Files.{Contents}
 use Rattle.run_actors.specs.declared.turn.Turn.{Turn}
-use Rattle.run_actors.specs.Lines.{line_of, lines_of}
+use Rattle.session_defs.specs.Lines.{line_of, lines_of}
 use Rattle.run_actors.specs.Steps.{Answered}
 use Rattle.run_actors.specs.Progress.{HasRun, IsSameDevice, RunsLane}
-use Rattle.run_actors.proofs.Turns.{take-next}
+use Rattle.lane_laws.proofs.Turns.{take-next}
 use Rattle.run_actors.proofs.Steps.{run-lane, run-command}
 
 -- the line of the next entry

@@ -16,10 +16,10 @@ use Rattle.session_defs.specs.Points.{before, after}
 use Rattle.session_defs.specs.Replies.{Meets}
 use Rattle.session_defs.specs.Transcripts.{made, ComesFromCommand, HasAccepted, IsTranscript}
 use Rattle.run_actors.specs.declared.turn.Turn.{Turn}
-use Rattle.run_actors.specs.Lines.{kind_of, line_of, lines_of}
+use Rattle.session_defs.specs.Lines.{kind_of, line_of, lines_of}
 use Rattle.run_actors.specs.Steps.{AnswersAlone, Makes, with_entry, Answered}
 use Rattle.run_actors.specs.Progress.{with_lanes, transcript_with, HasRun}
-use Rattle.run_actors.proofs.Turns.{slice_get-longer, slice_get-last, slice_get-split, at_turn-longer, at_turn-last, at_turn-split, at_turn-empty, at_turn-kept}
+use Rattle.lane_laws.proofs.Turns.{slice_get-longer, slice_get-last, slice_get-split, at_turn-longer, at_turn-last, at_turn-split, at_turn-empty, at_turn-kept}
 use Rattle.run_actors.proofs.Replies.{after-made, before-made, made-same_kind, made-same_number, makes_none}
 use Rattle.run_actors.proofs.Growth.{SameShape, shape-lanes, shape-last, shape-lane, shape-command, AllRise, rise-command, rise-lane, extends-same, extends-more, meet-command}
 

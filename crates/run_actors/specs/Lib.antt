@@ -1,4 +1,3 @@
 pub mod Loading
-pub mod Lines
 pub mod Steps
 pub mod Progress

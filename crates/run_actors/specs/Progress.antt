@@ -6,7 +6,7 @@ use Rattle.script_defs.specs.Scripts.{ScriptValue}
 use Rattle.script_defs.specs.Transcripts.{ReplyValue, TranscriptValue}
 use Rattle.session_defs.specs.Files.{Contents}
 use Rattle.session_defs.specs.Transcripts.{IsTranscript}
-use Rattle.run_actors.specs.Lines.{lines_of}
+use Rattle.session_defs.specs.Lines.{lines_of}
 
 -- the script with these lanes in place of its own
 abbrev pub with_lanes : ScriptValue → List (List Command) → ScriptValue

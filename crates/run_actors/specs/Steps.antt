@@ -9,7 +9,7 @@ use Rattle.session_defs.specs.Meant.{MeansChange}
 use Rattle.session_defs.specs.Points.{before, after}
 use Rattle.session_defs.specs.Replies.{Meets}
 use Rattle.session_defs.specs.Transcripts.{slot_of, made}
-use Rattle.run_actors.specs.Lines.{kind_of}
+use Rattle.session_defs.specs.Lines.{kind_of}
 use Rattle.run_actors.specs.declared.turn.Turn.{Turn}
 
 -- the reply is none to a command that made an entry

@@ -2,7 +2,7 @@
 
 ghost use Rattle.std.specs.Prelude.{◌≡◌, IfOk};
 ghost use Rattle.slot_core.specs.Entries.{entry_value};
-ghost use Rattle.run_actors.specs.Lines.{line_of, lines_of};
+ghost use Rattle.session_defs.specs.Lines.{line_of, lines_of};
 
 use pch_base::NoMemory;
 use run_script::{EntryKind, Items, Line};

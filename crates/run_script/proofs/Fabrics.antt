@@ -3,7 +3,7 @@ use Rattle.std.proofs.Common.{◌≡◌, ℕ, ◌<◌, ◌≤◌, Bool, true, fa
 use Rattle.std.specs.Prelude.{codes}
 use Rattle.std.specs.Str.{bytes_eq}
 use Rattle.script_defs.specs.Commands.{fabric_in, fabric_line}
-use Rattle.run_script.specs.Views.{texts}
+use Rattle.blif_read.specs.Views.{texts}
 
 -- fewer than five words say no fabric
 few_words : (ws : List (Bor (List ℕ))) → length ws < 5 → fabric_in (texts ws) ≡ None

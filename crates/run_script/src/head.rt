@@ -5,7 +5,7 @@ ghost use Rattle.fabric_defs.specs.declared.limits.TheConstants.{MAX_SIDE, MAX_T
 ghost use Rattle.text_defs.specs.Numbers.{positive_within};
 ghost use Rattle.script_defs.specs.Commands.{fabric_with, fabric_line, only_count, count_line};
 ghost use Rattle.script_defs.specs.Reading.{next_head};
-ghost use Rattle.run_script.specs.Views.{texts};
+ghost use Rattle.blif_read.specs.Views.{texts};
 ghost use Rattle.run_script.specs.Readers.{head_of};
 
 use crate::numbers::count_of;

@@ -12,7 +12,8 @@ ghost use Rattle.run_script.specs.Readers.{draft_of};
 
 use crate::reader::Reader;
 use crate::script::Script;
-use crate::words::{len_before, put_words};
+use crate::words::put_words;
+use blif_read::len_before;
 use script_defs::{MAX_SCRIPT_BYTES, ScriptError};
 use std::alloc::Global;
 

@@ -4,7 +4,8 @@ ghost use Rattle.text_defs.specs.Memory.{Gives};
 ghost use Rattle.script_defs.specs.declared.error.ScriptError.TheVariants.{Line, NoMemory};
 ghost use Rattle.script_defs.specs.declared.limits.TheConstants.{MAX_COMMANDS};
 ghost use Rattle.script_defs.specs.Reading.{start, all_lanes, said_files, said_command, file_command, with_command_line, with_lane, with_lane_line, with_line, with_words, value_of};
-ghost use Rattle.run_script.specs.Views.{texts, script_of};
+ghost use Rattle.blif_read.specs.Views.{texts};
+ghost use Rattle.run_script.specs.Views.{script_of};
 ghost use Rattle.run_script.specs.Files.{IsIndexed};
 ghost use Rattle.run_script.specs.Readers.{head_of, said_of, draft_of, IsKept};
 

@@ -2,7 +2,7 @@
 ghost use Rattle.std.specs.Prelude.{◌≡◌};
 ghost use Rattle.std.specs.Option.{option_map};
 ghost use Rattle.script_defs.specs.Commands.{named_by, evict_by, cycle_by, sweep_by, plain_by, said_by};
-ghost use Rattle.run_script.specs.Views.{texts};
+ghost use Rattle.blif_read.specs.Views.{texts};
 ghost use Rattle.run_script.specs.Readers.{plain_said, said_of};
 
 use crate::numbers::{bits_of, count_of, long_number_of, number_below};

@@ -21,16 +21,11 @@ pub fn literal_at(text: &[u8], at: usize) -> Option<LitWord>
     ensures end { IfSome result (λ w. w.end ≡ behind_word_at at text.now) }
     ensures within { IfSome result (λ w. w.end ≤ length text.now) }
 {
-    if at < text.len() && text[at] == b'-' {
-        let number = positive_at(text, at + 1, MAX_VARIABLE)?;
-        return Some(LitWord {
-            lit: Lit::from_parts(number.value, false),
-            end: number.end,
-        });
-    }
-    let number = positive_at(text, at, MAX_VARIABLE)?;
+    // One call for both signs: two would be too long to stand in the readers' loops.
+    let negative = at < text.len() && text[at] == b'-';
+    let number = positive_at(text, at + usize::from(negative), MAX_VARIABLE)?;
     Some(LitWord {
-        lit: Lit::from_parts(number.value, true),
+        lit: Lit::from_parts(number.value, !negative),
         end: number.end,
     })
 }

@@ -31,6 +31,8 @@ fn read_from(alloc: Global, text: &[u8], first: usize) -> Result<Cnf, CnfError>
 {
     let header = read_header(text, first)?;
     let mut clauses = Clauses::new(alloc);
+    // Seldom is each fourth byte the first one of a literal, or each eighth that of a clause.
+    clauses.make_room(text.len() / 8, text.len() / 4);
     read_clauses(alloc, text, header.rest, header.variables, &mut clauses)?;
     if clauses.len() != header.clauses {
         return Err(CnfError::Count {

@@ -131,8 +131,11 @@ fn read_version(alloc: Global, b: &[u8], version: u32) -> Result<Trace, TraceErr
     if b.len() > MAX_TRACE_BYTES as usize {
         return Err(TraceError::TooLong);
     }
+    let mut trace = Trace::empty(alloc);
+    // Seldom is a clause shorter than 16 bytes, or each fourth byte the first one of a literal.
+    trace.make_room(b.len() / 16, b.len() / 4, b.len() / 4);
     let mut reading = Reading {
-        trace: Trace::empty(alloc),
+        trace,
         places: Places::new(alloc, b.len() / 4 + 65_536),
         found: Vec::new(alloc),
     };

@@ -39,6 +39,14 @@ impl Clauses {
         }
     }
 
+    /// Makes room for so many clauses and literals more, if there is memory for it, so that lists needn't
+    /// be moved as they grow. What isn't used of it isn't touched.
+    pub fn make_room(&mut self, clauses: usize, literals: usize)
+        ensures { self.new ≡ self.old }
+    {
+        let _ = self.lists.reserve(clauses, literals);
+    }
+
     /// How many clauses there are.
     pub fn len(&self) -> u32
         ensures len { result ≡ length self.now }
@@ -79,6 +87,7 @@ impl Clauses {
         self.lists.push(lits)?;
         Ok(())
     }
+
     /// The lists of literals.
     pub(crate) fn into_lists(self) -> FlatLists<Lit>
         ensures lists { result.lists ≡ self }

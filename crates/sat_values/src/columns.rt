@@ -27,6 +27,17 @@ impl Columns {
         }
     }
 
+    /// Makes room for so many clauses, literals and antecedents more, if there is memory for it.
+    pub fn make_room(&mut self, clauses: usize, literals: usize, antecedents: usize)
+        ensures indices { self.new.indices.items ≡ self.old.indices.items }
+        ensures lits { self.new.lits.lists ≡ self.old.lits.lists }
+        ensures antecedents { self.new.antecedents.lists ≡ self.old.antecedents.lists }
+    {
+        let _ = self.indices.reserve(clauses);
+        let _ = self.lits.reserve(clauses, literals);
+        let _ = self.antecedents.reserve(clauses, antecedents);
+    }
+
     /// Appends a clause. After `NoMemory` the lists are as before.
     pub fn push(&mut self, index: u32, lits: &[Lit], antecedents: &[u32]) -> Result<(), NoMemory>
         requires { length self.old.antecedents.lists ≡ length self.old.lits.lists }
@@ -50,12 +61,11 @@ impl Columns {
             return Err(NoMemory);
         }
         self.indices.reserve(1)?;
-        self.lits.push(lits)?;
-        if self.antecedents.push(antecedents).is_err() {
-            self.lits.pop();
-            return Err(NoMemory);
-        }
+        self.lits.reserve(1, lits.len())?;
+        self.antecedents.reserve(1, antecedents.len())?;
         self.indices.push_reserved(index);
+        self.lits.push_reserved(lits);
+        self.antecedents.push_reserved(antecedents);
         Ok(())
     }
 }

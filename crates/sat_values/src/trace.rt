@@ -50,6 +50,14 @@ impl Trace {
         }
     }
 
+    /// Makes room for so many clauses, literals and antecedents more, if there is memory for it, so that
+    /// lists needn't be moved as they grow. What isn't used of it isn't touched.
+    pub fn make_room(&mut self, clauses: usize, literals: usize, antecedents: usize)
+        ensures { self.new ≡ self.old }
+    {
+        self.columns.make_room(clauses, literals, antecedents);
+    }
+
     /// How many clauses there are.
     pub fn len(&self) -> u32
         ensures len { result ≡ length self.now }

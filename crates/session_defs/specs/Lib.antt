@@ -1,5 +1,7 @@
 pub mod Files
+pub mod Lines
 pub mod Meant
 pub mod Points
 pub mod Replies
+pub mod LaneEnds
 pub mod Transcripts

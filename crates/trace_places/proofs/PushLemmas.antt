@@ -230,3 +230,17 @@ ArePlaces-regrouped indices table count tags numbers others new_count new_tags n
     | inr (inr other) ↦ inr (inr (all (get_or indices k 0) k other))
   ];
 }
+
+-- the same where the facts are of a list that was lent
+pub ArePlaces-made_room : (indices lent table : List ℕ) (count : ℕ) (tags numbers : List ℕ) (others : ℕ → Option ℕ) (new_count : ℕ) (new_tags new_numbers : List ℕ) (new_others : ℕ → Option ℕ)
+    → lent ≡ indices
+    → AreSlots new_count new_tags new_numbers → AreWithin lent new_numbers → MapsRight lent new_others → HasAll others new_others
+    → AreAllKept lent count tags numbers new_count new_tags new_numbers new_others
+    → ArePlaces indices table count tags numbers others → ArePlaces indices table new_count new_tags new_numbers new_others
+ArePlaces-made_room indices lent table count tags numbers others new_count new_tags new_numbers new_others same are_slots within mapped all kept h =
+    ArePlaces-regrouped indices table count tags numbers others new_count new_tags new_numbers new_others are_slots
+    (subst (λ (is : List ℕ). AreWithin is new_numbers) same within)
+    (subst (λ (is : List ℕ). MapsRight is new_others) same mapped)
+    all
+    (subst (λ (is : List ℕ). AreAllKept is count tags numbers new_count new_tags new_numbers new_others) same kept)
+    h

@@ -52,9 +52,14 @@ impl Places {
     pub fn new(alloc: Global, table_limit: usize) -> Places
         ensures { result ≡ [] }
     {
+        let mut table = Vec::new(alloc);
+        let mut indices = Vec::new(alloc);
+        // So they needn't be moved as they grow; what isn't used of the room isn't touched.
+        let _ = table.reserve(table_limit);
+        let _ = indices.reserve(table_limit / 4);
         Places {
-            indices: Vec::new(alloc),
-            table: Vec::new(alloc),
+            indices,
+            table,
             table_limit,
             in_table: 0,
             groups: Groups::none(alloc),

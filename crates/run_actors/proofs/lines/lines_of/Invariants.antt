@@ -1,5 +1,5 @@
 use Rattle.std.proofs.Common.{◌≡◌, take}
-use Rattle.run_actors.specs.Lines.{lines_of}
+use Rattle.session_defs.specs.Lines.{lines_of}
 use Rattle.run_actors.proofs.lines.lines_of.Given as goal
 
 -- the lines of the entries so far

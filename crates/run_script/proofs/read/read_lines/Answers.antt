@@ -2,7 +2,7 @@ use Rattle.std.proofs.Common.{◌≡◌, take, drop, refl, ap, ◌∙◌, arith}
 use Rattle.std.proofs.lemmas.Result.{err_from_is_err_and}
 use Rattle.script_defs.specs.Lines.{line_words}
 use Rattle.script_defs.specs.Reading.{read_statements}
-use Rattle.run_script.specs.Views.{texts}
+use Rattle.blif_read.specs.Views.{texts}
 use Rattle.run_script.specs.Readers.{draft_of}
 use Rattle.run_script.proofs.Reading.{line_fault, line_read, one_line_less, bytes_less}
 use Rattle.run_script.proofs.read.read_lines.Goals as goal

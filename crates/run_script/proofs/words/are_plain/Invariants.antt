@@ -1,7 +1,7 @@
 use Rattle.std.proofs.Common.{◌≡◌, take, true}
 use Rattle.std.specs.List.{list_all}
 use Rattle.script_defs.specs.Lines.{is_plain}
-use Rattle.run_script.specs.Views.{texts}
+use Rattle.blif_read.specs.Views.{texts}
 use Rattle.run_script.proofs.words.are_plain.Given as goal
 
 -- the words so far are plain

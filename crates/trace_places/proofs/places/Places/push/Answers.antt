@@ -2,8 +2,8 @@ use Rattle.std.proofs.Common.{◌≡◌, ℕ, ◌+◌, ◌==◌, ◌∷◌, ◌+
 use Rattle.trace_places.specs.Others.{place_in}
 use Rattle.clause_defs.specs.Traces.{place_of}
 use Rattle.trace_places.specs.Groups.{AreWithin}
-use Rattle.trace_places.specs.Places.{AreDistinct, AreAllKept, MapsRight}
-use Rattle.trace_places.proofs.PushLemmas.{ArePlaces-put, ArePlaces-insert, ArePlaces-add, ArePlaces-same_table, ArePlaces-regrouped}
+use Rattle.trace_places.specs.Places.{AreDistinct}
+use Rattle.trace_places.proofs.PushLemmas.{ArePlaces-put, ArePlaces-insert, ArePlaces-add, ArePlaces-same_table, ArePlaces-made_room}
 use Rattle.trace_places.proofs.places.Places.push.Goals as goal
 
 -- a table that couldn't be made longer says the same
@@ -43,14 +43,9 @@ pub invariant_of-self-in_err-make_room : goal.invariant_of-self-in_err-make_room
 invariant_of-self-in_err-make_room c =
     let items : c.reserve.new.self.items ≡ c.self.inside.indices.items = cc in
     let lent : c.deref.result.now ≡ c.self.inside.indices.items = cc in
-    let room = ArePlaces-regrouped c.self.inside.indices.items c.self.inside.table.items c.self.inside.groups.count c.self.inside.groups.tags.items c.self.inside.groups.numbers.items
-    (place_in c.self.inside.others) c.make_room.new.groups.count c.make_room.new.groups.tags.items c.make_room.new.groups.numbers.items (place_in c.make_room.new.others)
-    c.make_room.ensures.slots
-    (subst (λ (is : List ℕ). AreWithin is c.make_room.new.groups.numbers.items) lent c.make_room.ensures.within)
-    (subst (λ (is : List ℕ). MapsRight is (place_in c.make_room.new.others)) lent c.make_room.ensures.mapped)
-    c.make_room.ensures.all
-    (subst (λ (is : List ℕ). AreAllKept is c.self.inside.groups.count c.self.inside.groups.tags.items c.self.inside.groups.numbers.items
-    c.make_room.new.groups.count c.make_room.new.groups.tags.items c.make_room.new.groups.numbers.items (place_in c.make_room.new.others)) lent c.make_room.ensures.kept)
+    let room = ArePlaces-made_room c.self.inside.indices.items c.deref.result.now c.self.inside.table.items c.self.inside.groups.count c.self.inside.groups.tags.items
+    c.self.inside.groups.numbers.items (place_in c.self.inside.others) c.make_room.new.groups.count c.make_room.new.groups.tags.items c.make_room.new.groups.numbers.items
+    (place_in c.make_room.new.others) lent c.make_room.ensures.slots c.make_room.ensures.within c.make_room.ensures.mapped c.make_room.ensures.all c.make_room.ensures.kept
     c.self.invariant in
     rw items room
 
@@ -61,14 +56,9 @@ invariant_of-self-then-add c =
     let items : c.push_reserved-then-add.new.self.items ≡ c.self.inside.indices.items ++ c.args.index ∷ [] = cc in
     let place : c.len-place.result ≡ length c.self.inside.indices.items = c.len-place.ensures ∙ c.self.inside.indices.ok.0 in
     let lent : c.deref.result.now ≡ c.self.inside.indices.items = cc in
-    let room = ArePlaces-regrouped c.self.inside.indices.items c.self.inside.table.items c.self.inside.groups.count c.self.inside.groups.tags.items c.self.inside.groups.numbers.items
-    (place_in c.self.inside.others) c.make_room.new.groups.count c.make_room.new.groups.tags.items c.make_room.new.groups.numbers.items (place_in c.make_room.new.others)
-    c.make_room.ensures.slots
-    (subst (λ (is : List ℕ). AreWithin is c.make_room.new.groups.numbers.items) lent c.make_room.ensures.within)
-    (subst (λ (is : List ℕ). MapsRight is (place_in c.make_room.new.others)) lent c.make_room.ensures.mapped)
-    c.make_room.ensures.all
-    (subst (λ (is : List ℕ). AreAllKept is c.self.inside.groups.count c.self.inside.groups.tags.items c.self.inside.groups.numbers.items
-    c.make_room.new.groups.count c.make_room.new.groups.tags.items c.make_room.new.groups.numbers.items (place_in c.make_room.new.others)) lent c.make_room.ensures.kept)
+    let room = ArePlaces-made_room c.self.inside.indices.items c.deref.result.now c.self.inside.table.items c.self.inside.groups.count c.self.inside.groups.tags.items
+    c.self.inside.groups.numbers.items (place_in c.self.inside.others) c.make_room.new.groups.count c.make_room.new.groups.tags.items c.make_room.new.groups.numbers.items
+    (place_in c.make_room.new.others) lent c.make_room.ensures.slots c.make_room.ensures.within c.make_room.ensures.mapped c.make_room.ensures.all c.make_room.ensures.kept
     c.self.invariant in
     rw items
     (ArePlaces-add c.self.inside.indices.items c.self.inside.table.items c.make_room.new.groups.count c.make_room.new.groups.tags.items c.make_room.new.groups.numbers.items
@@ -81,14 +71,9 @@ invariant_of-self-in_err-insert c =
     let items : c.reserve.new.self.items ≡ c.self.inside.indices.items = cc in
     let same = c.add.ensures.same c.if-add.false in
     let lent : c.deref.result.now ≡ c.self.inside.indices.items = cc in
-    let room = ArePlaces-regrouped c.self.inside.indices.items c.self.inside.table.items c.self.inside.groups.count c.self.inside.groups.tags.items c.self.inside.groups.numbers.items
-    (place_in c.self.inside.others) c.make_room.new.groups.count c.make_room.new.groups.tags.items c.make_room.new.groups.numbers.items (place_in c.make_room.new.others)
-    c.make_room.ensures.slots
-    (subst (λ (is : List ℕ). AreWithin is c.make_room.new.groups.numbers.items) lent c.make_room.ensures.within)
-    (subst (λ (is : List ℕ). MapsRight is (place_in c.make_room.new.others)) lent c.make_room.ensures.mapped)
-    c.make_room.ensures.all
-    (subst (λ (is : List ℕ). AreAllKept is c.self.inside.groups.count c.self.inside.groups.tags.items c.self.inside.groups.numbers.items
-    c.make_room.new.groups.count c.make_room.new.groups.tags.items c.make_room.new.groups.numbers.items (place_in c.make_room.new.others)) lent c.make_room.ensures.kept)
+    let room = ArePlaces-made_room c.self.inside.indices.items c.deref.result.now c.self.inside.table.items c.self.inside.groups.count c.self.inside.groups.tags.items
+    c.self.inside.groups.numbers.items (place_in c.self.inside.others) c.make_room.new.groups.count c.make_room.new.groups.tags.items c.make_room.new.groups.numbers.items
+    (place_in c.make_room.new.others) lent c.make_room.ensures.slots c.make_room.ensures.within c.make_room.ensures.mapped c.make_room.ensures.all c.make_room.ensures.kept
     c.self.invariant in
     rw (items, c.add.ensures.count, same.0, same.1, (c.in_err-insert.ensures {u = tt}).unchanged) room
 
@@ -100,14 +85,9 @@ invariant_of-self-2 c =
     let place : c.len-place.result ≡ length c.self.inside.indices.items = c.len-place.ensures ∙ c.self.inside.indices.ok.0 in
     let same = c.add.ensures.same c.if-add.false in
     let lent : c.deref.result.now ≡ c.self.inside.indices.items = cc in
-    let room = ArePlaces-regrouped c.self.inside.indices.items c.self.inside.table.items c.self.inside.groups.count c.self.inside.groups.tags.items c.self.inside.groups.numbers.items
-    (place_in c.self.inside.others) c.make_room.new.groups.count c.make_room.new.groups.tags.items c.make_room.new.groups.numbers.items (place_in c.make_room.new.others)
-    c.make_room.ensures.slots
-    (subst (λ (is : List ℕ). AreWithin is c.make_room.new.groups.numbers.items) lent c.make_room.ensures.within)
-    (subst (λ (is : List ℕ). MapsRight is (place_in c.make_room.new.others)) lent c.make_room.ensures.mapped)
-    c.make_room.ensures.all
-    (subst (λ (is : List ℕ). AreAllKept is c.self.inside.groups.count c.self.inside.groups.tags.items c.self.inside.groups.numbers.items
-    c.make_room.new.groups.count c.make_room.new.groups.tags.items c.make_room.new.groups.numbers.items (place_in c.make_room.new.others)) lent c.make_room.ensures.kept)
+    let room = ArePlaces-made_room c.self.inside.indices.items c.deref.result.now c.self.inside.table.items c.self.inside.groups.count c.self.inside.groups.tags.items
+    c.self.inside.groups.numbers.items (place_in c.self.inside.others) c.make_room.new.groups.count c.make_room.new.groups.tags.items c.make_room.new.groups.numbers.items
+    (place_in c.make_room.new.others) lent c.make_room.ensures.slots c.make_room.ensures.within c.make_room.ensures.mapped c.make_room.ensures.all c.make_room.ensures.kept
     c.self.invariant in
     rw (items, c.add.ensures.count, same.0, same.1)
     (ArePlaces-insert c.self.inside.indices.items c.self.inside.table.items c.make_room.new.groups.count c.make_room.new.groups.tags.items c.make_room.new.groups.numbers.items

@@ -5,3 +5,4 @@ pub mod ShortTrace
 pub mod StepsLemmas
 pub mod ProducedLemmas
 pub mod DifferenceLemmas
+pub mod PartsLemmas

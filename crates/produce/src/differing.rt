@@ -5,7 +5,6 @@ ghost use Rattle.net_defs.specs.Networks.{Network};
 ghost use Rattle.produce.specs.Endings.{AlignedTo};
 ghost use Rattle.produce.specs.Differences.{DifferAt, DifferWith};
 
-use net_defs::InterfaceError;
 use netlist::{Net, Scratch, same_interface};
 use pch_base::{Bits, NoMemory};
 use std::alloc::Global;
@@ -26,6 +25,7 @@ pub fn outputs_at(alloc: Global, spec: &Net, design: &Net, x: Bits) -> Result<Bo
     let net = aligned_again(alloc, spec, design)?;
     let _inputs = net.inputs();
     let _spec_inputs = spec.inputs();
+    let _design_inputs = design.inputs();
     let mut spec_bits = Scratch::new(alloc, spec)?;
     let mut design_bits = Scratch::new(alloc, &net)?;
     Ok(BothOutputs {
@@ -40,10 +40,9 @@ fn aligned_again(alloc: Global, spec: &Net, design: &Net) -> Result<Net, NoMemor
     ensures { IfOk result (AlignedTo spec.now design.now) }
 {
     let _inputs = design.inputs();
-    let pairing = match same_interface(alloc, spec, design) {
-        Ok(pairing) => pairing,
-        Err(InterfaceError::NoMemory) => return Err(NoMemory),
-        Err(_) => unreachable!(),
+    // The names pair, so it can only be memory that is wanting.
+    let Ok(pairing) = same_interface(alloc, spec, design) else {
+        return Err(NoMemory);
     };
     design.aligned(alloc, &pairing)
 }

@@ -28,6 +28,7 @@ pub fn produce(
     ensures ends { IfErr result (EndsBy spec.now design.now g budget) }
 {
     let Refutation { config, log } = refute(alloc, spec, design, g, budget)?;
+    let _geometry = config.geometry();
     match bundled(alloc, &config, log) {
         Ok(bytes) => Ok(bytes),
         Err(_) => Err(ProduceEnd::NoMemory),

@@ -7,8 +7,8 @@ refuted_miter-requires-clause-fits c =
     spec_fits c.args.spec.now c.args.design.now c.in_ok-net.net c.in_ok-config.config c.in_ok-net.ensures.aligned c.in_ok-config.ensures.equal
 
 -- what was aligned, placed and refuted is a refutation
-pub returns-clause-refutation : goal.returns-clause-refutation
-returns-clause-refutation c =
+pub returns-in-Ok-clause-refutation : goal.returns-in-Ok-clause-refutation
+returns-in-Ok-clause-refutation c =
     refutation_of c.args.spec.now c.args.design.now c.in_ok-net.net c.args.g c.in_ok-config.config c.args.budget c.in-Ok.log
     c.in_ok-net.ensures.aligned c.in_ok-config.ensures.placed c.in_ok-config.ensures.equal c.in-Ok.ensures.refuted
 

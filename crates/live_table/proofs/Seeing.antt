@@ -1,13 +1,13 @@
 -- What a place sees when it meets a copy.
-use Rattle.std.proofs.Common.{◌≡◌, ℕ, ◌≤◌, Bool, true, false, List, Option, None, Some, Result, Ok, Err, MatchResult, MatchOption, refl, sym, ap, ◌∙◌, subst, le_refl}
+use Rattle.std.proofs.Common.{◌≡◌, ℕ, ◌≤◌, Bool, true, false, List, [], Option, None, Some, Result, Ok, Err, MatchResult, MatchOption, refl, sym, ap, ◌∙◌, subst, le_refl}
 use mathlib.Core.List.{IsPrefix}
 use Rattle.pch_io.specs.Outside.{Rose}
 use Rattle.journal_defs.specs.Journals.{EntryValue}
 use Rattle.journal_defs.specs.Legality.{Legal}
 use Rattle.slot_core.specs.Values.{TableValue}
 use Rattle.slot_core.specs.Tables.{IsLegal}
-use Rattle.live_table.specs.Values.{shape_of, FrontValue, PlaceValue}
-use Rattle.live_table.specs.Places.{Sees, Misses, seen_in}
+use Rattle.live_table.specs.Values.{shape_of, FrontValue, PlaceValue, ControlValue}
+use Rattle.live_table.specs.Places.{Sees, Misses, IsNewAt, seen_in}
 use Rattle.live_table.specs.declared.published.Published.{Published}
 use Rattle.live_table.specs.Rule.{IsWhole, IsLaterThan, IsAt, IsMet, IsLeft, shape_at}
 use Rattle.live_table.proofs.Prefixes.{prefix_self, prefix_nil}
@@ -114,3 +114,16 @@ pub kept_leaves : (v w : Option Published) (f kept : FrontValue) (n m : ℕ) →
 kept_leaves v w f kept n m same at left rose counted =
     subst (λ (g : FrontValue). Misses (place_at v f n) (place_at w g m)) (sym same)
     (left_misses v w f n m at left rose counted)
+
+-- a place at the publisher without entries is new at it
+pub is_new : (a b : ControlValue) (p : PlaceValue) → b ≡ a → a.table.journal ≡ []
+    → p ≡ record { book = Some b.book; shape = shape_of b.table; seen = b.table.journal; refusals = 0 } → IsNewAt a p
+is_new a b p same none is =
+    let there = is ∙ ap {B = PlaceValue}
+    (λ (c : ControlValue). record { book = Some c.book; shape = shape_of c.table; seen = c.table.journal; refusals = 0 })
+    same in
+    record {
+      book = ap (λ (q : PlaceValue). q.book) there;
+      shape = ap (λ (q : PlaceValue). q.shape) there;
+      seen = ap (λ (q : PlaceValue). q.seen) there ∙ none;
+    }

@@ -23,7 +23,8 @@ use Rattle.tree_defs.specs.declared.tree_end.TreeEnd.TheVariants.{Empty, Differs
 use Rattle.place_net.specs.Placings.{Placed}
 use Rattle.produce.specs.declared.produce_end.ProduceEnd.{ProduceEnd}
 use Rattle.produce.specs.declared.produce_end.ProduceEnd.TheVariants.{Interface, Unroutable, Differs, Spent, NoMemory}
-use Rattle.produce.specs.Endings.{AlignedTo, HaveOtherOutputs, IsOverMiter, Refuted, SpentAt, Unrefuted, EndsBy, answer_of}
+use Rattle.miter_size.specs.Sizes.{HasShortTrace}
+use Rattle.produce.specs.Endings.{AlignedTo, HaveOtherOutputs, IsOverMiter, Refuted, SpentAt, Unrefuted, IsRefutation, EndsBy, answer_of}
 
 -- a clause with the literals of none has none
 no_literals : (c : Lits) → SameSet c [] → c ≡ []
@@ -43,27 +44,30 @@ none_empty log nothing index has =
     let high = has.within in absurd (omega arith)
 
 -- a log that grew is over the same miter
-grown_miter : (spec : Network) (config : ConfigValue) (before after : LogValue) → Extends before after → IsOverMiter spec config before
+pub grown_miter : (spec : Network) (config : ConfigValue) (before after : LogValue) → Extends before after → IsOverMiter spec config before
     → IsOverMiter spec config after
 grown_miter spec config before after more over cells of = more.originals ∙ over cells of
 
 -- the empty clause that was found is the last one
 found_empty : (spec : Network) (config : ConfigValue) (budget : ℕ) (before after : LogValue) (index : ℕ) → IsOverMiter spec config before
-    → before.derived ≡ [] → before.budget ≡ budget → Extends before after → IsRefuted before after index → Refuted spec config budget after
-found_empty spec config budget before after index over nothing same more found =
+    → before.derived ≡ [] → before.budget ≡ budget → Extends before after → IsLog after → HasShortTrace after → IsRefuted before after index
+    → Refuted spec config budget after
+found_empty spec config budget before after index over nothing same more is_log short found =
     let last = found.last (none_empty before nothing) in
     let low = found.empty.behind_originals in
     record {
       over_miter = grown_miter spec config before after more over;
+      is_log = is_log;
+      short = short;
       budget_is = more.budget ∙ same;
       empty = (omega arith, ap (clause_of_log after) (sym last) ∙ no_literals (clause_of_log after index) found.empty.same);
     }
 
 -- the budget that was spent is less than what is enough
 spent_all : (spec : Network) (config : ConfigValue) (budget : ℕ) (before after : LogValue) (used need : ℕ) → IsOverMiter spec config before
-    → before.derived ≡ [] → before.budget ≡ budget → Extends before after → IsLog after → IsSpentAt spec before after used need
-    → SpentAt spec config budget used need after
-spent_all spec config budget before after used need over nothing same more is_log spent =
+    → before.derived ≡ [] → before.budget ≡ budget → Extends before after → IsLog after → HasShortTrace after
+    → IsSpentAt spec before after used need → SpentAt spec config budget used need after
+spent_all spec config budget before after used need over nothing same more is_log short spent =
     let words : Words before.derived ≡ 0 = ap Words nothing in
     let kept : after.budget ≡ budget = more.budget ∙ same in
     let above = spent.over in
@@ -71,6 +75,7 @@ spent_all spec config budget before after used need over nothing same more is_lo
     record {
       over_miter = grown_miter spec config before after more over;
       is_log = is_log;
+      short = short;
       used_is = spent.used_is;
       need_low = spent.need_low;
       need_high = spent.need_high;
@@ -80,21 +85,23 @@ spent_all spec config budget before after used need over nothing same more is_lo
 
 -- what is answered where the log is a refutation
 pub answered_ok : (spec : Network) (config : ConfigValue) (budget : ℕ) (before after : LogValue) (end : TreeEnd) → IsOverMiter spec config before
-    → before.derived ≡ [] → before.budget ≡ budget → Extends before after → IsLog after → TreeEnds spec config before end after
+    → before.derived ≡ [] → before.budget ≡ budget → Extends before after → IsLog after → HasShortTrace after
+    → TreeEnds spec config before end after
     → IfOk (answer_of end after) (Refuted spec config budget)
-answered_ok spec config budget before after (Empty index) over nothing same more is_log ends =
-    found_empty spec config budget before after index over nothing same more ends
-answered_ok spec config budget before after (DiffersInSearch x) over nothing same more is_log ends = tt
-answered_ok spec config budget before after (SpentInSearch used need) over nothing same more is_log ends = tt
+answered_ok spec config budget before after (Empty index) over nothing same more is_log short ends =
+    found_empty spec config budget before after index over nothing same more is_log short ends
+answered_ok spec config budget before after (DiffersInSearch x) over nothing same more is_log short ends = tt
+answered_ok spec config budget before after (SpentInSearch used need) over nothing same more is_log short ends = tt
 
 -- and where it isn't
 pub answered_err : (spec : Network) (config : ConfigValue) (budget : ℕ) (before after : LogValue) (end : TreeEnd) → IsOverMiter spec config before
-    → before.derived ≡ [] → before.budget ≡ budget → Extends before after → IsLog after → TreeEnds spec config before end after
+    → before.derived ≡ [] → before.budget ≡ budget → Extends before after → IsLog after → HasShortTrace after
+    → TreeEnds spec config before end after
     → IfErr (answer_of end after) (Unrefuted spec config budget)
-answered_err spec config budget before after (Empty index) over nothing same more is_log ends = tt
-answered_err spec config budget before after (DiffersInSearch x) over nothing same more is_log ends = ends
-answered_err spec config budget before after (SpentInSearch used need) over nothing same more is_log ends =
-    spent_all spec config budget before after used need over nothing same more is_log ends
+answered_err spec config budget before after (Empty index) over nothing same more is_log short ends = tt
+answered_err spec config budget before after (DiffersInSearch x) over nothing same more is_log short ends = ends
+answered_err spec config budget before after (SpentInSearch used need) over nothing same more is_log short ends =
+    spent_all spec config budget before after used need over nothing same more is_log short ends
 
 -- the aligned design has as many inputs and outputs as the specification
 pub aligned_inputs : (spec design net : Network) → AlignedTo spec design net → net.inputs ≡ spec.inputs
@@ -114,6 +121,13 @@ spec_fits spec design net config a equal =
     let ins_fit = equal.fits.inputs in
     let outs_fit = equal.fits.outputs in
     record { inputs = omega arith; outputs = omega arith }
+
+-- what was aligned, placed and refuted is a refutation for the fabric
+pub refutation_of : (spec design net : Network) (g : GeometryValue) (config : ConfigValue) (budget : ℕ) (log : LogValue)
+    → AlignedTo spec design net → Placed net g config → Equal net config → Refuted spec config budget log
+    → IsRefutation spec design g budget config log
+refutation_of spec design net g config budget log a placed equal refuted =
+    record { net = net; aligned = a; placed = placed; equal = equal; refuted = refuted }
 
 -- where the pads of the placed design aren't the specification's outputs, the aligned design's outputs aren't
 pub other_outputs : (spec design net : Network) (config : ConfigValue) (x : List ℕ) → AlignedTo spec design net → IsNet net

@@ -17,6 +17,8 @@ use Rattle.tree_defs.specs.Trees.{DiffersAt}
 use Rattle.tree_defs.specs.declared.tree_end.TreeEnd.{TreeEnd}
 use Rattle.tree_defs.specs.declared.tree_end.TreeEnd.TheVariants.{Empty, Differs as DiffersInSearch, Spent as SpentInSearch}
 use Rattle.place_net.specs.Placings.{Placed, FirstOver}
+use Rattle.miter_defs.specs.Equality.{Equal}
+use Rattle.miter_size.specs.Sizes.{HasShortTrace}
 use Rattle.produce.specs.declared.produce_end.ProduceEnd.{ProduceEnd}
 use Rattle.produce.specs.declared.produce_end.ProduceEnd.TheVariants.{Interface, Unroutable, Differs, Spent, NoMemory}
 
@@ -40,17 +42,20 @@ pub record HaveOtherOutputs (spec net : Network) (x : List ℕ) : Type 0 where
 abbrev pub IsOverMiter : Network → ConfigValue → LogValue → Type 0
 IsOverMiter spec config log = (cells : CellsValue) → AreCellsOf config cells → log.originals ≡ Miter spec cells
 
--- the log refutes the miter within the budget
+-- the log refutes the miter within the budget, and its text can be read
 pub record Refuted (spec : Network) (config : ConfigValue) (budget : ℕ) (log : LogValue) : Type 0 where
   pub over_miter : IsOverMiter spec config log
+  pub is_log : IsLog log
+  pub short : HasShortTrace log
   pub budget_is : log.budget ≡ budget
   pub empty : EndsWithEmpty log.originals.clauses log.derived
 
 -- The next clause of the search is over the budget, and the budget is less than what is enough. The log has the
--- clauses that the words were spent on.
+-- clauses that the words were spent on, and its text can be read.
 pub record SpentAt (spec : Network) (config : ConfigValue) (budget used need : ℕ) (log : LogValue) : Type 0 where
   pub over_miter : IsOverMiter spec config log
   pub is_log : IsLog log
+  pub short : HasShortTrace log
   pub used_is : used ≡ Words log.derived
   pub need_low : 4 ≤ need
   pub need_high : need ≤ 2 * log.originals.variables + 4
@@ -88,11 +93,12 @@ answer_of (Empty index) log = Ok log
 answer_of (DiffersInSearch x) log = Err (Differs x)
 answer_of (SpentInSearch used need) log = Err (Spent used need log)
 
--- the placed design, and a log that refutes the miter of the specification and this
+-- the placed design, which computes the design, and a log that refutes the miter of the specification and this
 pub record IsRefutation (spec design : Network) (g : GeometryValue) (budget : ℕ) (config : ConfigValue) (log : LogValue) : Type 0 where
   pub net : Network
   pub aligned : AlignedTo spec design net
   pub placed : Placed net g config
+  pub equal : Equal net config
   pub refuted : Refuted spec config budget log
 
 -- The cause of each end. An interface that doesn't pair stands before a resource that is wanting, and both stand

@@ -8,15 +8,13 @@ use crate::produce_end::ProduceEnd;
 use extract::extract;
 use fabric::Config;
 use miter_cnf::miter;
+use miter_size::MAX_BUDGET;
 use netlist::Net;
 use pch_base::NoMemory;
 use proof_log::Log;
 use std::alloc::Global;
 use tree_defs::TreeEnd;
 use tree_refute::tree;
-
-/// The greatest budget of words.
-pub(crate) const MAX_BUDGET: u32 = 4_194_304;
 
 /// A log with the miter as its clauses, and nothing derived yet.
 fn open_log(alloc: Global, spec: &Net, config: &Config, budget: u32) -> Result<Log, NoMemory>
@@ -57,6 +55,8 @@ pub(crate) fn refuted_miter(
     ensures refuted { IfOk result (Refuted spec.now config.now budget) }
     ensures unrefuted { IfErr result (Unrefuted spec.now config.now budget) }
 {
+    let _geometry = config.geometry();
+    let _inputs = spec.inputs();
     let Ok(mut log) = open_log(alloc, spec, config, budget) else {
         return Err(ProduceEnd::NoMemory);
     };

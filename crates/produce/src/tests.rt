@@ -1,4 +1,4 @@
-use crate::{ProduceEnd, Refutation, enough, refute};
+use crate::{ProduceEnd, Refutation, enough, produce, refute};
 use fabric::Geometry;
 use netlist::{Net, read_specification};
 use std::alloc::Global;
@@ -30,6 +30,18 @@ fn the_inverter_is_refuted(rt: HostRuntime) -> Result<(), Fail> {
     };
     assert!(rt; refutation.log.used() <= 48);
     assert_eq!(rt; refutation.log.originals().len(), 26);
+    Ok(())
+}
+
+#[test]
+fn the_inverter_is_produced(rt: HostRuntime) -> Result<(), Fail> {
+    let alloc = rt.alloc();
+    let spec = net_of(alloc, INVERTER)?;
+    let g = Geometry::new(1, 1, 2, 1, 1).ok_or("no fabric")?;
+    let Ok(bytes) = produce(alloc, &spec, &spec, g, 48) else {
+        return Err("no bundle".into());
+    };
+    assert!(rt; bytes.len() > 200);
     Ok(())
 }
 

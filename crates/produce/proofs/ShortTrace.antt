@@ -1,0 +1,26 @@
+-- The text of the log of a miter is short enough to be read.
+use Rattle.std.proofs.Common.{ℕ, ◌≤◌, arith}
+use Rattle.net_defs.specs.Networks.{Network}
+use Rattle.net_defs.specs.Nets.{IsNet}
+use Rattle.fabric_defs.specs.Configurations.{ConfigValue, IsConfig}
+use Rattle.cell_laws.proofs.CellsExistence.{cells_exist}
+use Rattle.log_defs.specs.Logs.{LogValue, IsLog}
+use Rattle.miter_size.specs.declared.limits.TheConstants.{MAX_BUDGET}
+use Rattle.miter_size.specs.Sizes.{HasShortTrace}
+use Rattle.miter_size.proofs.TraceLengths.{short-trace}
+use Rattle.produce.specs.Endings.{IsOverMiter}
+
+-- the words of the miter and of a log within the budget are few
+pub short_trace : (spec : Network) (config : ConfigValue) (log : LogValue) → IsNet spec → IsConfig config → IsOverMiter spec config log
+    → IsLog log → log.budget ≤ MAX_BUDGET → HasShortTrace log
+short_trace spec config log net is_config over is_log within =
+    let cells = cells_exist config is_config in
+    short-trace spec config log (record {
+      is_net = net;
+      is_config = is_config;
+      cells = cells.0;
+      are_cells = cells.1;
+      is_log = is_log;
+      over_miter = over cells.0 cells.1;
+      few_words = omega (arith, is_log.within_budget, within);
+    })

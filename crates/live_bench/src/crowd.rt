@@ -61,7 +61,8 @@ fn point_of(cycle: &Cycle) -> u32 {
     }
 }
 
-/// When the evaluators may end: at the earliest after so many answers, and once this is 1.
+/// When the evaluators may end: at the earliest after so many answers, and once this is 1. Where time is
+/// measured and no answer is asked for, they don't begin.
 #[derive(Drop)]
 pub(crate) struct End<'a> {
     pub(crate) answers: u64,
@@ -126,6 +127,9 @@ impl<L: Naming> Asker<L> {
         let Ok(start) = Instant::now(rt) else {
             return asker;
         };
+        if asker.is_timed && end.answers == 0 {
+            return asker;
+        }
         if asker.is_timed {
             asker.ask_fast(rt, end);
         } else {

@@ -134,7 +134,7 @@ fn run_maker<L: Naming + Send + Sync, R: Threads + Wait + Clock + Sync>(
     let mut tally = Tally {
         made: maker.counted.control().table().len(),
         answers: 0,
-        faults: 0,
+        faults: maker.faults,
         entry_nanos,
         cycle_nanos: 0,
     };
@@ -174,6 +174,7 @@ fn run_on<L: Naming + Send + Sync, R: Threads + Wait + Clock + Sync>(
         share,
         inverter,
         wire,
+        faults: 0,
     };
     let tally = run_maker(rt, alloc, &mut maker, evaluators, plan);
     let Maker {
@@ -181,6 +182,7 @@ fn run_on<L: Naming + Send + Sync, R: Threads + Wait + Clock + Sync>(
         share: _share,
         inverter: _inverter,
         wire: _wire,
+        faults: _,
     } = maker;
     counted.close(rt);
     tally

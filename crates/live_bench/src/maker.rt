@@ -7,7 +7,7 @@ use bundle::print_bundle;
 use fabric::Geometry;
 use netlist::{Net, read_specification};
 use slot_core::Table;
-use slot_live::{Counted, Naming, Receipt};
+use slot_live::{ControlError, Counted, Naming, Receipt};
 use std::alloc::Global;
 use std::marker::PhantomData;
 use std::sync::ledger::Share;
@@ -74,6 +74,8 @@ pub(crate) struct Maker<L: Naming> {
     pub(crate) share: Share<L>,
     pub(crate) inverter: Arc<Net>,
     pub(crate) wire: Arc<Net>,
+    /// How often something else came after want of memory than has to.
+    pub(crate) faults: u64,
     ghost party: { 0 < share.parts },
 }
 
@@ -92,6 +94,7 @@ impl<L: Naming> Maker<L> {
         if self.counted.control().table().slots() < 2 {
             return None;
         }
+        let entries = self.counted.control().table().len();
         let made = match number % 4 {
             1 => {
                 let net = self.inverter.clone().ok()?;
@@ -111,10 +114,29 @@ impl<L: Naming> Maker<L> {
             }
         };
         let _control = self.counted.control();
-        Some(Last {
-            receipt: made.ok()?,
-            of: PhantomData,
-        })
+        match made {
+            Ok(receipt) => Some(Last {
+                receipt,
+                of: PhantomData,
+            }),
+            Err(error) => {
+                if error == ControlError::NoMemory && !self.is_broken(rt, entries) {
+                    self.faults = self.faults.saturating_add(1);
+                }
+                None
+            }
+        }
+    }
+
+    /// Whether the control is broken: it has so many entries, says that it is broken, and makes no more.
+    fn is_broken<R: Wait>(&mut self, rt: &R, entries: u32) -> bool {
+        let control = self.counted.control();
+        let table = control.table();
+        if table.slots() < 2 || table.len() != entries || !control.broken() {
+            return false;
+        }
+        let next = self.counted.evict(rt, 0, 0, 0, &mut self.share);
+        next.err() == Some(ControlError::Broken)
     }
 
     /// Makes the entries of these numbers, and tells each. Answers the number of the last one that was

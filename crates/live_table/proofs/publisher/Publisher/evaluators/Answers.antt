@@ -1,4 +1,4 @@
-use Rattle.std.proofs.Common.{◌≡◌, ◌+◌, ◌∙◌, List, All, length, sym, ap, subst}
+use Rattle.std.proofs.Common.{◌≡◌, ◌+◌, ◌∙◌, List, [], ◌∷◌, All, length, length-append, sym, ap, subst}
 use Rattle.std.proofs.lemmas.List.Elements.{All-push}
 use Rattle.live_table.specs.Values.{PlaceValue}
 use Rattle.live_table.specs.Places.{IsNewAt}
@@ -13,9 +13,10 @@ loop-seat-preserved g c =
     let kept = c.loop-seat.invariant in
     record {
       same = place.same ∙ kept.same;
-      count = push.len ∙ ap (λ n. n + 1) kept.count;
+      count = ap (λ (es : List PlaceValue). length es) push.items
+          ∙ (length-append c.loop-seat.evaluators.items (c.in_ok-new.field-0 ∷ []) ∙ ap (λ n. n + 1) kept.count);
       new = subst (All (IsNewAt c.args.self.now)) (sym push.items)
-          (All-push c.loop-seat.evaluators.items c.in_ok-new.field-0 kept.new
+          (All-push (IsNewAt c.args.self.now) c.loop-seat.evaluators.items c.in_ok-new.field-0 kept.new
           (is_new c.args.self.now c.loop-seat.self c.in_ok-new.field-0 kept.same c.requires
           (c.in_ok-new.ensures {u = tt} ∙ place.place)));
     }

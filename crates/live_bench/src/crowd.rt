@@ -76,7 +76,11 @@ impl<L: Naming> Asker<L> {
             return;
         };
         let at = point_of(&cycle);
-        let right = if self.is_timed { is_negated(&cycle) } else { is_right(&cycle) };
+        let right = if self.is_timed {
+            is_negated(&cycle)
+        } else {
+            is_right(&cycle)
+        };
         self.answers = self.answers.saturating_add(1);
         if !right || at < self.least || self.evaluator.seen() != at {
             self.faults = self.faults.saturating_add(1);

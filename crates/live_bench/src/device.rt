@@ -60,7 +60,11 @@ fn prepare<L: Naming, R: Threads + Wait + Sync>(
     if plan.is_timed {
         let made = maker.make_all(rt, alloc, board, 0, plan.before.min(2));
         let more = plan.before.saturating_sub(2);
-        if maker.flip(rt, alloc, more) { Some(made) } else { None }
+        if maker.flip(rt, alloc, more) {
+            Some(made)
+        } else {
+            None
+        }
     } else {
         Some(maker.make_all(rt, alloc, board, 0, plan.before))
     }

@@ -87,7 +87,11 @@ fn line_of(alloc: Global, plan: &Plan, tally: &Tally) -> Option<Vec<u8>> {
         let entries = u64::from(plan.entries.max(1));
         line.extend_from_slice(b", nanoseconds: ").ok()?;
         push_number(&mut line, tally.entry_nanos / entries, b" an entry, ")?;
-        push_number(&mut line, tally.cycle_nanos / tally.answers.max(1), b" a cycle, ")?;
+        push_number(
+            &mut line,
+            tally.cycle_nanos / tally.answers.max(1),
+            b" a cycle, ",
+        )?;
         push_number(&mut line, tally.answers, b" cycles")?;
     }
     line.push(b'\n').ok()?;

@@ -98,19 +98,22 @@ impl<L: Naming> Maker<L> {
         let made = match number % 4 {
             1 => {
                 let net = self.inverter.clone().ok()?;
-                self.counted.agree(rt, 0, number, slot, net, &mut self.share)
+                self.counted
+                    .agree(rt, 0, number, slot, net, &mut self.share)
             }
             2 => {
                 let v = verified(rt, alloc, &self.inverter)?;
                 if !fits(self.counted.control().table(), &v) {
                     return None;
                 }
-                self.counted.install(rt, 0, number, slot, v, &mut self.share)
+                self.counted
+                    .install(rt, 0, number, slot, v, &mut self.share)
             }
             3 => self.counted.evict(rt, 0, number, slot, &mut self.share),
             _ => {
                 let net = self.wire.clone().ok()?;
-                self.counted.agree(rt, 0, number, slot, net, &mut self.share)
+                self.counted
+                    .agree(rt, 0, number, slot, net, &mut self.share)
             }
         };
         let _control = self.counted.control();
@@ -161,7 +164,12 @@ impl<L: Naming> Maker<L> {
     }
 
     /// Agrees a wire for the second slot and evicts it, in turns, so many times.
-    pub(crate) fn flip<R: Threads + Wait + Sync>(&mut self, rt: &R, alloc: Global, times: u32) -> bool {
+    pub(crate) fn flip<R: Threads + Wait + Sync>(
+        &mut self,
+        rt: &R,
+        alloc: Global,
+        times: u32,
+    ) -> bool {
         for time in 0..times {
             if self.make(rt, alloc, time % 2 + 3, 1).is_none() {
                 return false;

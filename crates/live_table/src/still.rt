@@ -46,5 +46,4 @@ impl Place for StillPlace {
 /// `Gone`.
 pub fn still_place_is_never_gone()
     ensures { (old new : StillPlace) → Misses (still_value old) (still_value new) → ⊥ }
-{
-}
+{}

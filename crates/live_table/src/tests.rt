@@ -34,12 +34,15 @@ fn learns<R: Wait + Abort>(
     };
     assert!(rt; matches!(first.ticket(0)?, Look::Unagreed { at: 0 }));
     assert!(rt; matches!(publisher.front(), None));
-    let receipt = publisher.publish(rt, Entry::Agreed {
-        lane: 0,
-        turn: 7,
-        slot: 0,
-        net,
-    })?;
+    let receipt = publisher.publish(
+        rt,
+        Entry::Agreed {
+            lane: 0,
+            turn: 7,
+            slot: 0,
+            net,
+        },
+    )?;
     assert_eq!(rt; receipt.at, 1);
     assert!(rt; first.learn(&receipt.front).is_ok());
     assert_eq!(rt; first.seen(), 1);
@@ -47,7 +50,16 @@ fn learns<R: Wait + Abort>(
     assert!(rt; matches!(first.sweep(0, 0, 2), Ok(Sweep::Vacant { at: 1 })));
     assert_eq!(rt; second.seen(), 0);
     let since = second.cycle_since(0, Bits::new(1, 1), 0)?;
-    assert!(rt; matches!(since, Since { cycle: Cycle::Vacant { at: 1 }, net: Some(_), agreed: 1 }));
+    assert!(rt;
+        matches!(
+            since,
+            Since {
+                cycle: Cycle::Vacant { at: 1 },
+                net: Some(_),
+                agreed: 1
+            }
+        )
+    );
     Ok(second)
 }
 

@@ -60,7 +60,9 @@ fn a_still_place_is_entered(rt: HostRuntime) -> Result<(), Fail> {
     let g = fabric_of_one()?;
     let agreed = net_of(alloc, INVERTER)?;
     let mut table = Table::new(alloc, g, 1, 2)?;
-    let (net, config) = verified(&rt, alloc, &agreed).ok_or("it is accepted")?.into_parts();
+    let (net, config) = verified(&rt, alloc, &agreed)
+        .ok_or("it is accepted")?
+        .into_parts();
     table.apply(Ready::of(&Entry::Agreed {
         lane: 0,
         turn: 1,
@@ -79,7 +81,9 @@ fn a_still_place_is_entered(rt: HostRuntime) -> Result<(), Fail> {
     let Ok(answer) = evaluator.cycle(0, Bits::new(1, 1), 0) else {
         unreachable!();
     };
-    assert!(rt; matches!(answer, Cycle::Out { outputs, probe: false, at: 2 } if outputs == Bits::new(0, 1)));
+    assert!(rt;
+        matches!(answer, Cycle::Out { outputs, probe: false, at: 2 } if outputs == Bits::new(0, 1))
+    );
     assert_eq!(rt; evaluator.seen(), 2);
     Ok(())
 }
@@ -154,21 +158,41 @@ fn refuse<R: Threads + Wait + Abort + Sync>(
     asker: &mut Asker,
 ) -> Result<(), Fail> {
     let (inverter, wire) = (net_of(alloc, INVERTER)?, net_of(alloc, WIRE)?);
-    assert!(rt; install(rt, alloc, control, &inverter)?.err() == Some(ControlError::Unagreed { at: 0 }));
+    assert!(rt;
+        install(rt, alloc, control, &inverter)?.err() == Some(ControlError::Unagreed { at: 0 })
+    );
     assert!(rt; control.table().is_empty() && control.front().is_none() && !control.broken());
     assert!(rt; matches!(asker.cycle(), Some(Cycle::Vacant { at: 0 })));
     assert!(rt; matches!(agree(rt, control, &inverter)?, Ok(Receipt { at: 1, .. })));
     assert!(rt; matches!(agree(rt, control, &wire)?, Ok(Receipt { at: 2, .. })));
-    assert!(rt; install(rt, alloc, control, &inverter)?.err() == Some(ControlError::Stale { at: 2 }));
+    assert!(rt;
+        install(rt, alloc, control, &inverter)?.err() == Some(ControlError::Stale { at: 2 })
+    );
     assert_eq!(rt; control.table().len(), 2);
     assert!(rt; matches!(asker.cycle(), Some(Cycle::Vacant { at: 2 })));
     assert!(rt; matches!(agree(rt, control, &inverter)?, Ok(Receipt { at: 3, .. })));
-    assert!(rt; matches!(install(rt, alloc, control, &inverter)?, Ok(Receipt { at: 4, .. })));
+    assert!(rt;
+        matches!(
+            install(rt, alloc, control, &inverter)?,
+            Ok(Receipt { at: 4, .. })
+        )
+    );
     assert!(rt; evict(rt, control).err() == Some(ControlError::Full { limit: 4 }));
     assert!(rt; agree(rt, control, &wire)?.err() == Some(ControlError::Full { limit: 4 }));
-    assert!(rt; install(rt, alloc, control, &inverter)?.err() == Some(ControlError::Full { limit: 4 }));
+    assert!(rt;
+        install(rt, alloc, control, &inverter)?.err() == Some(ControlError::Full { limit: 4 })
+    );
     assert!(rt; control.table().len() == 4 && control.front().is_some() && !control.broken());
-    assert!(rt; matches!(asker.cycle(), Some(Cycle::Out { probe: false, at: 4, .. })));
+    assert!(rt;
+        matches!(
+            asker.cycle(),
+            Some(Cycle::Out {
+                probe: false,
+                at: 4,
+                ..
+            })
+        )
+    );
     Ok(())
 }
 

@@ -105,8 +105,10 @@ fn run_beside<L: Naming + Send + Sync, R: Threads + Wait + Clock + Sync>(
         answers: u64::from(plan.cycles),
         done: &done,
     };
-    let (nanos, asked) = join(
+    // Where no thread can be made the first call runs last, when the entries are made.
+    let (asked, nanos) = join(
         rt,
+        || thread::map_vec(rt, askers, &|asker: Asker<L>| asker.run(rt, board, &end)),
         || -> Option<u64>
             requires { plan.now.before + plan.now.entries < 100000 }
         {
@@ -114,7 +116,6 @@ fn run_beside<L: Naming + Send + Sync, R: Threads + Wait + Clock + Sync>(
             done.store(1, SeqCst);
             nanos
         },
-        || thread::map_vec(rt, askers, &|asker: Asker<L>| asker.run(rt, board, &end)),
     );
     Some((nanos?, asked.ok()?))
 }

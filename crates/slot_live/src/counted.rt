@@ -54,8 +54,9 @@ fn shares_of<L: Naming>(
 {
     let mut rest = whole;
     let mut shares = Vec::with_capacity(alloc, parties as usize)?;
-    for _ in 0..parties {
-        shares.push(rest.split_off(1, 0))?;
+    for _party in 0..parties {
+        let share = rest.split_off(1, 0);
+        shares.push(share)?;
     }
     Ok(shares)
 }

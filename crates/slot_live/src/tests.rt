@@ -1,6 +1,6 @@
 //! The worked cases of one device, and each refusal by its cause.
 
-ghost use Rattle.std.specs.Prelude.{◌≡◌, ◌≤◌, ◌<◌, IsTrue, IfOk, Some};
+ghost use Rattle.std.specs.Prelude.{◌≡◌, ◌<◌, IsTrue, IfOk};
 ghost use Rattle.miter_defs.specs.Equality.{FitsPads};
 ghost use Rattle.fabric_defs.specs.Geometries.{cell_count};
 
@@ -15,14 +15,14 @@ use std::alloc::Global;
 use std::process::Abort;
 use std::sync::{Arc, Wait};
 use std::test::Fail;
-use std::thread::{Threads, join};
+use std::thread::Threads;
 use verify::{Verified, verify};
 
 /// A negation.
-pub(crate) const INVERTER: &[u8] = b".inputs a\n.outputs y\n.names a y\n0 1\n.end\n";
+const INVERTER: &[u8] = b".inputs a\n.outputs y\n.names a y\n0 1\n.end\n";
 
 /// A network that hands its input on.
-pub(crate) const WIRE: &[u8] = b".inputs a\n.outputs y\n.names a y\n1 1\n.end\n";
+const WIRE: &[u8] = b".inputs a\n.outputs y\n.names a y\n1 1\n.end\n";
 
 /// One cell that negates the one input pad.
 const CONFIG: [u8; 16] = [0, 1, 0, 1, 0, 0, 0, 0, 0, 0, 0x55, 0x55, 0, 2, 0, 1];
@@ -32,23 +32,19 @@ const TRACE: &[u8] = b"1 -1 0 0\n2 -2 -4 0 0\n3 2 4 0 0\n4 -3 4 0 0\n5 3 -4 0 0\
 28 -2 0 26 22 7 4 2 1 0\n29 0 27 28 0\n";
 
 /// The fabric of one cell.
-pub(crate) fn fabric_of_one() -> Result<Geometry, Fail>
+fn fabric_of_one() -> Result<Geometry, Fail>
     ensures { IfOk result (λ g. 0 < cell_count g) }
 {
     Ok(Geometry::new(1, 1, 1, 1, 1).ok_or("within the limits")?)
 }
 
 /// The net of a text, which is shared.
-pub(crate) fn net_of(alloc: Global, text: &[u8]) -> Result<Arc<Net>, Fail> {
+fn net_of(alloc: Global, text: &[u8]) -> Result<Arc<Net>, Fail> {
     Ok(Arc::new(alloc, read_specification(alloc, text)?)?)
 }
 
 /// The negation and its configuration.
-pub(crate) fn verified<R: Threads + Sync>(
-    rt: &R,
-    alloc: Global,
-    net: &Arc<Net>,
-) -> Option<Verified> {
+fn verified<R: Threads + Sync>(rt: &R, alloc: Global, net: &Arc<Net>) -> Option<Verified> {
     let g = Geometry::new(1, 1, 1, 1, 1)?;
     let bytes = print_bundle(alloc, 1, g, &CONFIG, TRACE).ok()?;
     verify(rt, alloc, net, g, bytes.as_slice(), 1).ok()
@@ -78,9 +74,7 @@ fn a_still_place_is_entered(rt: HostRuntime) -> Result<(), Fail> {
         config,
     })?);
     let mut evaluator = EvaluatorOver::new(alloc, StillPlace::new(table), g)?;
-    let Ok(answer) = evaluator.cycle(0, Bits::new(1, 1), 0) else {
-        unreachable!();
-    };
+    let answer = evaluator.cycle(0, Bits::new(1, 1), 0)?;
     assert!(rt;
         matches!(answer, Cycle::Out { outputs, probe: false, at: 2 } if outputs == Bits::new(0, 1))
     );
@@ -90,31 +84,21 @@ fn a_still_place_is_entered(rt: HostRuntime) -> Result<(), Fail> {
 
 /// Who asks the one slot of a device.
 #[derive(Drop)]
-pub(crate) struct Asker {
-    pub(crate) evaluator: Evaluator,
+struct Asker {
+    evaluator: Evaluator,
     ghost slot: { 0 < evaluator.shape.slots },
     ghost cell: { 0 < cell_count evaluator.shape.geometry },
 }
 
 impl Asker {
     /// The answer to a cycle whose input is 1, where the evaluator isn't refused.
-    pub(crate) fn cycle(&mut self) -> Option<Cycle>
-        ensures { self.new.evaluator.book ≡ self.old.evaluator.book }
-    {
+    fn cycle(&mut self) -> Option<Cycle> {
         self.evaluator.cycle(0, Bits::new(1, 1), 0).ok()
-    }
-
-    /// Learns the front, and tells whether the evaluator wasn't refused.
-    pub(crate) fn learn(&mut self, front: &Front) -> bool
-        requires { self.old.evaluator.book ≡ Some front.now.book }
-        ensures { self.new.evaluator.book ≡ self.old.evaluator.book }
-    {
-        self.evaluator.learn(front).is_ok()
     }
 }
 
 /// Whether the table has a slot, and what was verified is of its fabric.
-pub(crate) fn fits(t: &Table, v: &Verified) -> bool
+fn fits(t: &Table, v: &Verified) -> bool
     ensures { IsTrue result → (0 < t.now.slots) × (v.now.config.geometry ≡ t.now.geometry)
         × FitsPads v.now.net v.now.config.geometry }
 {
@@ -150,42 +134,81 @@ fn evict<R: Wait + Abort>(rt: &R, control: &mut Control) -> Result<Receipt, Cont
     control.evict(rt, 0, 0, 0)
 }
 
-/// Each refusal of a device with room for four entries, and that it changes nothing.
+/// Before anything is agreed nothing is installed, and this changes nothing.
+fn refuse_unagreed<R: Threads + Wait + Abort + Sync>(
+    rt: &R,
+    alloc: Global,
+    control: &mut Control,
+    net: &Arc<Net>,
+) -> Result<(), Fail> {
+    let refused = install(rt, alloc, control, net)?.err();
+    assert!(rt; refused == Some(ControlError::Unagreed { at: 0 }));
+    assert!(rt; control.table().is_empty() && control.front().is_none() && !control.broken());
+    Ok(())
+}
+
+/// Once a wire is agreed in place of the negation, the negation isn't installed.
+fn refuse_stale<R: Threads + Wait + Abort + Sync>(
+    rt: &R,
+    alloc: Global,
+    control: &mut Control,
+    net: &Arc<Net>,
+) -> Result<(), Fail> {
+    let wire = net_of(alloc, WIRE)?;
+    assert!(rt; matches!(agree(rt, control, net)?, Ok(Receipt { at: 1, .. })));
+    assert!(rt; matches!(agree(rt, control, &wire)?, Ok(Receipt { at: 2, .. })));
+    let refused = install(rt, alloc, control, net)?.err();
+    assert!(rt; refused == Some(ControlError::Stale { at: 2 }));
+    assert!(rt; control.table().len() == 2 && !control.broken());
+    Ok(())
+}
+
+/// The negation is agreed again, and installed.
+fn deliver<R: Threads + Wait + Abort + Sync>(
+    rt: &R,
+    alloc: Global,
+    control: &mut Control,
+    net: &Arc<Net>,
+) -> Result<(), Fail> {
+    assert!(rt; matches!(agree(rt, control, net)?, Ok(Receipt { at: 3, .. })));
+    let made = install(rt, alloc, control, net)?;
+    assert!(rt; matches!(made, Ok(Receipt { at: 4, .. })));
+    Ok(())
+}
+
+/// There is room for four entries.
+fn refuse_full<R: Threads + Wait + Abort + Sync>(
+    rt: &R,
+    alloc: Global,
+    control: &mut Control,
+    net: &Arc<Net>,
+) -> Result<(), Fail> {
+    let full = Some(ControlError::Full { limit: 4 });
+    assert!(rt; evict(rt, control).err() == full);
+    assert!(rt; agree(rt, control, net)?.err() == full);
+    assert!(rt; install(rt, alloc, control, net)?.err() == full);
+    assert!(rt; control.table().len() == 4 && control.front().is_some() && !control.broken());
+    Ok(())
+}
+
+/// Each refusal of a device with room for four entries, and what runs in between.
 fn refuse<R: Threads + Wait + Abort + Sync>(
     rt: &R,
     alloc: Global,
     control: &mut Control,
     asker: &mut Asker,
 ) -> Result<(), Fail> {
-    let (inverter, wire) = (net_of(alloc, INVERTER)?, net_of(alloc, WIRE)?);
-    assert!(rt;
-        install(rt, alloc, control, &inverter)?.err() == Some(ControlError::Unagreed { at: 0 })
-    );
-    assert!(rt; control.table().is_empty() && control.front().is_none() && !control.broken());
+    let net = net_of(alloc, INVERTER)?;
+    refuse_unagreed(rt, alloc, control, &net)?;
     assert!(rt; matches!(asker.cycle(), Some(Cycle::Vacant { at: 0 })));
-    assert!(rt; matches!(agree(rt, control, &inverter)?, Ok(Receipt { at: 1, .. })));
-    assert!(rt; matches!(agree(rt, control, &wire)?, Ok(Receipt { at: 2, .. })));
-    assert!(rt;
-        install(rt, alloc, control, &inverter)?.err() == Some(ControlError::Stale { at: 2 })
-    );
-    assert_eq!(rt; control.table().len(), 2);
+    refuse_stale(rt, alloc, control, &net)?;
     assert!(rt; matches!(asker.cycle(), Some(Cycle::Vacant { at: 2 })));
-    assert!(rt; matches!(agree(rt, control, &inverter)?, Ok(Receipt { at: 3, .. })));
+    deliver(rt, alloc, control, &net)?;
+    refuse_full(rt, alloc, control, &net)?;
+    let ran = asker.cycle();
     assert!(rt;
         matches!(
-            install(rt, alloc, control, &inverter)?,
-            Ok(Receipt { at: 4, .. })
-        )
-    );
-    assert!(rt; evict(rt, control).err() == Some(ControlError::Full { limit: 4 }));
-    assert!(rt; agree(rt, control, &wire)?.err() == Some(ControlError::Full { limit: 4 }));
-    assert!(rt;
-        install(rt, alloc, control, &inverter)?.err() == Some(ControlError::Full { limit: 4 })
-    );
-    assert!(rt; control.table().len() == 4 && control.front().is_some() && !control.broken());
-    assert!(rt;
-        matches!(
-            asker.cycle(),
+            ran,
             Some(Cycle::Out {
                 probe: false,
                 at: 4,

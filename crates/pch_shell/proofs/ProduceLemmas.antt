@@ -2,7 +2,6 @@
 use Rattle.std.proofs.Common.{◌≡◌, inl, inr, ℕ, List, length, Result, Ok, Err, IfOk, ap, sym, subst, ◌∙◌}
 use Rattle.sat_text_defs.specs.TraceText.{TraceText}
 use Rattle.net_defs.specs.Networks.{Network}
-use Rattle.net_defs.specs.Specifications.{HasNetwork}
 use Rattle.fabric_defs.specs.Geometries.{GeometryValue}
 use Rattle.log_defs.specs.Logs.{LogValue}
 use Rattle.miter_size.specs.Sizes.{log_trace}
@@ -12,16 +11,7 @@ use Rattle.produce.specs.Endings.{EndsBy}
 use Rattle.produce.specs.Bundling.{Produced}
 use Rattle.pch_lines.specs.ProduceLines.{spent_line}
 use Rattle.pch_shell.specs.Outcomes.{Outcome, done_with, spent_with, written_line}
-use Rattle.pch_shell.specs.Produce.{Describe, ToldOfEnd, CanBeTold, ProduceDue}
-
--- the cause of an end is what its telling rests on
-pub can_be_told : (wanted given : Network) (g : GeometryValue) (budget : ℕ) (end : ProduceEnd) → EndsBy wanted given g budget end
-    → CanBeTold wanted given end
-can_be_told wanted given g budget (Interface error) h = tt
-can_be_told wanted given g budget (Unroutable resource place need have) h = tt
-can_be_told wanted given g budget (Differs x) (net, aligned, config, placed, differ) = (net, aligned, differ)
-can_be_told wanted given g budget (Spent used need log) (net, aligned, config, placed, spent) = spent.short
-can_be_told wanted given g budget NoMemory h = tt
+use Rattle.pch_shell.specs.Produce.{Describe, ToldOfEnd, ProduceDue}
 
 -- of a spent budget the text of the log is told, and its words
 pub spent_told : (wanted given : Network) (end : ProduceEnd) (used need : ℕ) (log : LogValue) (bytes line : List ℕ) (o : Outcome)

@@ -204,7 +204,7 @@ impl Walk {
 }
 
 // Whether they do at each of so many steps.
-fn walk(alloc: Global, seed: u32, steps: u32) -> Result<bool, NoMemory> {
+fn walk_agrees(alloc: Global, seed: u32, steps: u32) -> Result<bool, NoMemory> {
     let trail = match opened(alloc, VARIABLES, Clauses::new(alloc))? {
         Some(trail) => trail,
         None => return Ok(false),
@@ -227,7 +227,7 @@ fn walk(alloc: Global, seed: u32, steps: u32) -> Result<bool, NoMemory> {
 #[test]
 fn a_trail_agrees_with_a_plain_program(rt: HostRuntime) -> Result<(), Fail> {
     for seed in 0..100 {
-        assert!(rt; walk(rt.alloc(), seed, 60)?);
+        assert!(rt; walk_agrees(rt.alloc(), seed, 60)?);
     }
     Ok(())
 }

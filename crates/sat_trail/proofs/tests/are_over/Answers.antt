@@ -1,5 +1,4 @@
 use Rattle.std.proofs.Common.{◌≤◌, arith}
-use Rattle.clause_defs.specs.Literals.{Literal}
 use Rattle.sat_trail.proofs.SearchLemmas.{next_too}
 use Rattle.sat_trail.proofs.tests.are_over.Goals as goal
 

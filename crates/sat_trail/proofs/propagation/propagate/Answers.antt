@@ -1,0 +1,47 @@
+use Rattle.std.proofs.Common.{◌≡◌, ◌≤◌, length, take, sym, ◌∙◌, subst, arith, take_all}
+use Rattle.sat_trail.specs.Watching.{IsWatched}
+use Rattle.link_lists.specs.Linked.{list_at}
+use Rattle.sat_trail.proofs.NextLemmas.{keeps_then}
+use Rattle.sat_trail.proofs.PassLemmas.{keeps_length}
+use Rattle.sat_trail.proofs.SettledLemmas.{all_settled}
+use Rattle.sat_trail.proofs.propagation.propagate.Goals as goal
+
+pub returns-in-Some-clause-keeps : goal.returns-in-Some-clause-keeps
+returns-in-Some-clause-keeps c = keeps_then c.loop-number.invariant.variables c.loop-number.invariant.keeps c.in-Some.ensures.keeps
+
+pub returns-in-Some-settle_loose-clause-keeps : goal.returns-in-Some-settle_loose-clause-keeps
+returns-in-Some-settle_loose-clause-keeps c =
+    keeps_then (c.in-None.ensures.variables ∙ c.loop-number.invariant.variables)
+    (keeps_then c.loop-number.invariant.variables c.loop-number.invariant.keeps c.in-None.ensures.keeps) c.in-Some-settle_loose.ensures.keeps
+
+pub returns-then-done-len-clause-watched : goal.returns-then-done-len-clause-watched
+returns-then-done-len-clause-watched c = c.in-None-settle_loose.ensures.keeps.watched c.pass_on.new.done c.in-None.ensures.passed c.in-None.ensures.watched
+
+pub returns-then-done-len-clause-keeps : goal.returns-then-done-len-clause-keeps
+returns-then-done-len-clause-keeps c =
+    keeps_then (c.in-None.ensures.variables ∙ c.loop-number.invariant.variables)
+    (keeps_then c.loop-number.invariant.variables c.loop-number.invariant.keeps c.in-None.ensures.keeps) c.in-None-settle_loose.ensures.keeps
+
+-- all literals were passed on, so each clause is settled
+pub returns-then-done-len-clause-settled : goal.returns-then-done-len-clause-settled
+returns-then-done-len-clause-settled c =
+    let t = c.settle_loose.new.values.assignment.lits in
+    let all = c.if-done-len.true in
+    let len = c.len.ensures.len in
+    let watched = c.in-None-settle_loose.ensures.keeps.watched c.pass_on.new.done c.in-None.ensures.passed c.in-None.ensures.watched in
+    all_settled c.args.region.now.held c.settle_loose.new.watches.links.lists c.settle_loose.new.watches.watch.items t
+    c.in-None-settle_loose.ensures.resting.watches
+    (subst (IsWatched c.args.region.now.held (list_at c.settle_loose.new.watches.links.lists 1) c.settle_loose.new.watches.watch.items t)
+        (take_all c.pass_on.new.done t (omega arith)) watched)
+    c.in-None-settle_loose.ensures.settled
+
+pub loop-number-preserved : goal.loop-number-preserved
+loop-number-preserved c = record {
+  resting = c.in-None-settle_loose.ensures.resting;
+  marks = c.in-None-settle_loose.ensures.marks;
+  variables = c.in-None-settle_loose.ensures.variables ∙ c.in-None.ensures.variables ∙ c.loop-number.invariant.variables;
+  watched = c.in-None-settle_loose.ensures.keeps.watched c.pass_on.new.done c.in-None.ensures.passed c.in-None.ensures.watched;
+  passed = let a = keeps_length c.in-None-settle_loose.ensures.keeps in let b = c.in-None.ensures.passed in omega arith;
+  keeps = keeps_then (c.in-None.ensures.variables ∙ c.loop-number.invariant.variables)
+      (keeps_then c.loop-number.invariant.variables c.loop-number.invariant.keeps c.in-None.ensures.keeps) c.in-None-settle_loose.ensures.keeps;
+}

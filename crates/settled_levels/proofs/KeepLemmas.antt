@@ -7,15 +7,7 @@ use Rattle.clause_defs.specs.Clauses.{Lits, Has}
 use Rattle.trail_defs.specs.Assignments.{IsAt, IsSettled}
 use Rattle.trail_defs.specs.Trails.{Assigned, clause_at, level_of, IsTrail, IsUpTo, IsGrown, HasSameValues}
 use Rattle.settled_levels.specs.Levels.{IsFront, IsOpenBelow, IsSettledBelow}
-
--- a place among the first m
-at_front : (xs : Lits) (m i : ℕ) (l : Literal) → i < m → IsAt xs i l → IsAt (take m xs) i l
-at_front [] m i l lt at = absurd (let w = at.within in omega arith)
-at_front (x ∷ xs) zero i l lt at = absurd (omega arith)
-at_front (x ∷ xs) (suc m) zero l lt at = record { within = omega arith; read = at.read }
-at_front (x ∷ xs) (suc m) (suc i) l lt at =
-    let rest = at_front xs m i l (omega arith) (record { within = let w = at.within in omega arith; read = at.read }) in
-    record { within = let w = rest.within in omega arith; read = rest.read }
+use Rattle.settled_levels.proofs.FrontLemmas.{open_back}
 
 -- a place of a list stays one with more behind
 at_longer : (xs ys : Lits) (i : ℕ) (l : Literal) → IsAt xs i l → IsAt (xs ++ ys) i l
@@ -36,23 +28,9 @@ first_behind (x ∷ xs) (y ∷ ys) (suc n) lt some =
 -- going back
 pub settled_back : (t s : Assigned) (b : ℕ) → IsUpTo b t s → s.levels ≡ t.levels → s.present ≡ b → s.clauses ≡ t.clauses → b ≤ t.present
     → IsSettledBelow t → IsSettledBelow s
-settled_back t s b up levels present clauses low settled k c live a n less front =
-    let m = length s.lits in
-    let shorter : m ≤ length t.lits = let same = ap length up.front in omega (arith, length-take m t.lits) in
-    let within = front.within in
-    let takes : take n s.lits ≡ take n t.lits = ap (take n) up.front ∙ take-take n m t.lits within in
-    let before : IsFront t a n = record {
-      within = omega arith;
-      left = λ l h. subst (λ ls. get_or ls l.variable 0 ≤ a) levels (front.left l (subst (λ (ls : Lits). Has ls l) (sym takes) h));
-      gone = λ i l at past. elim (cases_lt i m) [
-        | inl lt ↦
-            let here = subst (λ (ls : Lits). IsAt ls i l) (sym up.front) (at_front t.lits m i l lt at) in
-            subst (λ ls. a < get_or ls l.variable 0) levels (front.gone i l here past)
-        | inr behind ↦ let high = up.gone i l at behind in omega arith
-      ];
-    } in
-    subst (λ (ls : Lits). IsSettled ls c) (sym takes)
-    (settled k c (subst (λ cs. clause_at cs k ≡ Some c) clauses live) a n (omega arith) before)
+settled_back t s b up levels present clauses low settled k c live =
+    open_back t s b up levels c present
+    (λ a n less front. settled k c (subst (λ cs. clause_at cs k ≡ Some c) clauses live) a n (omega arith) front)
 
 -- a front of a longer trail whose new literals are of higher levels
 front_shorter : (t s : Assigned) (more : Lits) (a n : ℕ) → s.lits ≡ t.lits ++ more → ((l : Literal) → Has t.lits l → level_of s l ≡ level_of t l)

@@ -51,3 +51,8 @@ pub fn a_conflict_is_of_the_present_level()
         → b + 1 ≡ t.present → IsFront t b n → IsSettled (take n t.lits) c
         → (x : Literal) × Has c x × (level_of t x ≡ t.present) }
 {}
+
+/// Each level has a front.
+pub fn levels_have_fronts()
+    ensures { (t : Assigned) → IsTrail t → (b : ℕ) → (n : ℕ) × IsFront t b n }
+{}

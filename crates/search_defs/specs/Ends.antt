@@ -6,9 +6,9 @@ use Rattle.log_defs.specs.Logs.{LogValue, Words, HasDerived}
 use Rattle.log_defs.specs.Deriving.{IsNew}
 use Rattle.trail_defs.specs.Assignments.{IsSatisfied}
 use Rattle.trail_defs.specs.Trails.{Assigned}
-use Rattle.cdcl_log.specs.Solving.{Solving}
-use Rattle.cdcl_log.specs.declared.end.CdclEnd.{CdclEnd}
-use Rattle.cdcl_log.specs.declared.end.CdclEnd.TheVariants.{Empty, Point, Spent}
+use Rattle.search_defs.specs.Solving.{Solving}
+use Rattle.search_defs.specs.declared.end.CdclEnd.{CdclEnd}
+use Rattle.search_defs.specs.declared.end.CdclEnd.TheVariants.{Empty, Point, Spent}
 
 -- each variable has a value
 abbrev pub IsTotal : Assigned → Type 0
@@ -25,7 +25,7 @@ pub record IsRefuted (log : LogValue) (index : ℕ) : Type 0 where
   pub derived : HasDerived log [] index
   pub last : index ≡ length log.originals.clauses + length log.derived
 
--- the next clause is over the limit
+-- the next clause is over the limit, and the empty one isn't derived
 pub record IsSpent (log : LogValue) (limit used need : ℕ) : Type 0 where
   pub used_is : used ≡ Words log.derived
   pub need_low : 4 ≤ need

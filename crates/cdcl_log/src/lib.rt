@@ -4,15 +4,16 @@
 //! conflict, it derives a clause that rules it out, with its chain, and goes on; so in the end either
 //! each variable has a value, or the log has the empty clause, or the words allowed are spent.
 //!
-//! `specs/Solving` says what the search keeps, and `specs/Ends` how it ends. What a conflict teaches is
-//! the crate `conflict_analysis`.
+//! What the search keeps and how it ends is defined in `search_defs`; what a conflict teaches is the
+//! crate `conflict_lesson`.
 #![tactic(auto)]
 
-mod end;
+mod descent;
 mod restarts;
 mod solver;
+mod steps;
 #[cfg(test)]
 mod tests;
 
-pub use end::CdclEnd;
+pub use search_defs::CdclEnd;
 pub use solver::Solver;

@@ -1,20 +1,22 @@
-ghost use Rattle.std.specs.Prelude.{◌≡◌, ℕ, true, ◌+◌, ◌<◌, ◌≤◌, [], length, vec_capacity, Some, IfOk, IfErr, IfSome, IfNone};
+ghost use Rattle.std.specs.Prelude.{◌≡◌, ℕ, ◌+◌, ◌<◌, ◌≤◌, [], length, get_or, Some, IfOk, IfSome, IfNone};
 ghost use Rattle.clause_defs.specs.Clauses.{Lits, Has};
-ghost use Rattle.log_defs.specs.Logs.{Words, Extends};
-ghost use Rattle.trail_defs.specs.Assignments.{IsConflict, IsSatisfied, IsFree};
-ghost use Rattle.trail_defs.specs.Trails.{clause_at, HasSameClauses};
-ghost use Rattle.settled_levels.specs.Levels.{IsSettledBelow};
-ghost use Rattle.cdcl_log.specs.Solving.{IsSolving};
-ghost use Rattle.cdcl_log.specs.Ends.{SolveEnds, IsTotal};
+ghost use Rattle.clause_defs.specs.declared.verdict.TheConstants.{MAX_INDEX};
+ghost use Rattle.log_defs.specs.Logs.{Words, Extends, IsIndexOf, clause_of_log};
+ghost use Rattle.trail_defs.specs.Assignments.{IsConflict};
+ghost use Rattle.trail_defs.specs.Trails.{clause_at};
+ghost use Rattle.search_defs.specs.Solving.{IsSolving};
+ghost use Rattle.search_defs.specs.Ends.{SolveEnds, IsTotal};
 
-use crate::end::CdclEnd;
+use crate::descent::descend;
 use crate::restarts::Restarts;
-use conflict_analysis::{analyze, refute, second_level};
-use conflict_chain::ConflictChain;
+use crate::steps::{back_to, put};
+use conflict_analysis::second_level;
+use conflict_lesson::Lesson;
 use decision_order::DecisionOrder;
-use pch_base::{Lit, NoMemory};
-use proof_log::{Log, LogEnd};
+use pch_base::NoMemory;
+use proof_log::Log;
 use sat_trail::Trail;
+use search_defs::CdclEnd;
 use std::alloc::Global;
 use std::marker::Model;
 
@@ -28,23 +30,20 @@ pub struct Solver {
     trail: Trail,
     // The index in the log of each clause of the trail, by its number.
     indices: Vec<u32>,
-    chain: ConflictChain,
-    // The clause that the last conflict taught.
-    lits: Vec<Lit>,
+    lesson: Lesson,
     order: DecisionOrder,
     restarts: Restarts,
 }
 
 impl Model for Solver {
-    ghost use Rattle.std.specs.Prelude.{vec_capacity};
-    ghost use Rattle.cdcl_log.specs.Solving.{Solving};
+    ghost use Rattle.std.specs.Prelude.{◌≡◌, ◌+◌};
+    ghost use Rattle.search_defs.specs.Solving.{Solving};
 
     ghost Value = { Solving };
 
     ghost view = { λ s. record { limit = s.limit; trail = s.trail; indices = s.indices.items } };
 
-    ghost invariant = { λ s. (s.chain.variables ≡ s.trail.variables) × (s.order ≡ s.trail.variables + 1)
-        × (s.trail.variables ≤ vec_capacity s.lits) };
+    ghost invariant = { λ s. (s.lesson.variables ≡ s.trail.variables) × (s.order ≡ s.trail.variables + 1) };
 }
 
 impl Solver {
@@ -57,13 +56,11 @@ impl Solver {
     {
         let set = log.originals();
         let variables = set.variables();
-        let trail = Trail::open(alloc, set, limit, limit)?;
         Ok(Solver {
             limit,
-            trail,
+            trail: Trail::open(alloc, set, limit, limit)?,
             indices: own_indices(alloc, set.len(), limit)?,
-            chain: ConflictChain::new(alloc, variables)?,
-            lits: Vec::with_capacity(alloc, variables as usize)?,
+            lesson: Lesson::new(alloc, variables)?,
             order: DecisionOrder::new(alloc, variables)?,
             restarts: Restarts::new(),
         })
@@ -79,13 +76,12 @@ impl Solver {
         ensures end { SolveEnds log.new self.new result }
         ensures same_limit { self.new.limit ≡ self.old.limit }
     {
-        while let Some(number) = self.descend() {
-            if let Some(end) = self.learn_from(number, log) {
-                return end;
+        while let Some(number) = descend(&mut self.trail, &self.order, self.lesson.variables()) {
+            match self.learn_from(number, log) {
+                Some(end) => return end,
+                None => {}
             }
-            if self.restarts.is_due() {
-                self.trail.back_to(0);
-            }
+            self.restart_if_due();
         }
         CdclEnd::Point
     }
@@ -103,47 +99,11 @@ impl Solver {
         }
     }
 
-    // Decides variables and draws the consequences, until each has a value or a clause is in conflict.
-    fn descend(&mut self) -> Option<u32>
-        requires settled { IsSettledBelow self.old.trail }
-        ensures settled { IsSettledBelow self.new.trail }
-        ensures same { HasSameClauses self.old.trail self.new.trail }
-        ensures limit { self.new.limit ≡ self.old.limit }
-        ensures indices { self.new.indices ≡ self.old.indices }
-        ensures conflict { IfSome result (λ k. (c : Lits)
-            × (clause_at self.new.trail.clauses k ≡ Some c) × IsConflict self.new.trail.lits c) }
-        ensures total { IfNone result (IsTotal self.new.trail) }
-        ensures satisfied { IfNone result ((k : ℕ) (c : Lits)
-            → clause_at self.new.trail.clauses k ≡ Some c → IsSatisfied self.new.trail.lits c) }
-    {
-        let mut conflict = self.trail.propagate();
-        while conflict.is_none() {
-            let l = self.choose()?;
-            self.trail.assign(l);
-            conflict = self.trail.propagate();
+    // Goes back to level 0 after so many conflicts.
+    fn restart_if_due(&mut self) {
+        if self.restarts.is_due() {
+            back_to(&mut self.trail, &mut self.order, 0);
         }
-        conflict
-    }
-
-    // A literal of the variable without a value that has the greatest activity, if one is left.
-    fn choose(&self) -> Option<Lit>
-        ensures free { IfSome result (λ l. IsFree self.now.trail.lits l × (l.variable ≤ self.now.trail.variables)) }
-        ensures none { IfNone result (IsTotal self.now.trail) }
-    {
-        let mut best = None;
-        let mut most = 0;
-        for v in 1..self.chain.variables() + 1 {
-            if self.trail.value(v).is_some() {
-                continue;
-            }
-            let activity = self.order.activity(v);
-            if best.is_none() || activity > most {
-                best = Some(v);
-                most = activity;
-            }
-        }
-        let v = best?;
-        Some(Lit::from_parts(v, self.order.phase(v)))
     }
 
     // Derives what a clause in conflict teaches, and goes back to where that clause asks for a value.
@@ -163,7 +123,7 @@ impl Solver {
         if present == 0 {
             return Some(self.conclude(index, log));
         }
-        analyze(
+        self.lesson.analyze(
             log,
             present,
             self.trail.literals(),
@@ -171,86 +131,57 @@ impl Solver {
             self.trail.reasons(),
             &self.indices,
             index,
-            &mut self.chain,
-            &mut self.lits,
         );
-        self.bump(log);
-        match self.derive(log) {
+        self.lesson.bump(log, &mut self.order);
+        let second = second_level(self.trail.levels(), present, self.lesson.lits());
+        match self.lesson.derive(log, self.limit) {
             Ok(index) => {
-                let second = second_level(self.trail.levels(), present, &self.lits);
-                self.back_to(second);
-                self.put(index);
+                back_to(&mut self.trail, &mut self.order, second);
+                put(&mut self.trail, &mut self.indices, self.lesson.lits(), index);
                 None
             }
-            Err(end) => Some(end),
+            Err(over) => Some(CdclEnd::Spent {
+                used: over.used,
+                need: over.need,
+            }),
         }
     }
 
     // Derives the empty clause from the clause with this index, which is in conflict on level 0.
-    fn conclude(&mut self, index: u32, log: &mut Log) -> CdclEnd {
-        refute(
+    fn conclude(&mut self, index: u32, log: &mut Log) -> CdclEnd
+        requires solving { IsSolving log.old self.old }
+        requires root { self.old.trail.present ≡ 0 }
+        requires index { IsIndexOf log.old index }
+        requires conflict { IsConflict self.old.trail.lits (clause_of_log log.old index) }
+        ensures log { Extends log.old log.new }
+        ensures limit { Words log.new.derived ≤ self.old.limit }
+        ensures end { SolveEnds log.new self.new result }
+        ensures same_limit { self.new.limit ≡ self.old.limit }
+    {
+        self.lesson.refute(
             log,
             self.trail.literals(),
             self.trail.levels(),
             self.trail.reasons(),
             &self.indices,
             index,
-            &mut self.chain,
         );
-        self.lits.clear();
-        match self.derive(log) {
+        match self.lesson.derive(log, self.limit) {
             Ok(index) => CdclEnd::Empty { index },
-            Err(end) => end,
+            Err(over) => CdclEnd::Spent {
+                used: over.used,
+                need: over.need,
+            },
         }
-    }
-
-    // The variables of the clauses that the last conflict resolved met it.
-    fn bump(&mut self, log: &Log) {
-        for &index in self.chain.antecedents() {
-            bump_all(log.clause(index), &mut self.order);
-        }
-        self.order.step();
-    }
-
-    // Derives the clause that the last conflict taught, if its words are within the limit.
-    fn derive(&mut self, log: &mut Log) -> Result<u32, CdclEnd> {
-        let need = 3 + self.lits.len() as u32 + self.chain.antecedents().len() as u32;
-        let used = log.used();
-        if need > self.limit - used {
-            return Err(CdclEnd::Spent { used, need });
-        }
-        match log.derive(&self.lits, self.chain.antecedents()) {
-            Ok(index) => Ok(index),
-            Err(LogEnd::Kept { index }) => Ok(index),
-            Err(LogEnd::Spent { used, need }) => Err(CdclEnd::Spent { used, need }),
-        }
-    }
-
-    // Goes back to a level, and remembers the values that are taken away.
-    fn back_to(&mut self, level: u32) {
-        for &l in self.trail.literals() {
-            self.order.remember(l);
-        }
-        self.trail.back_to(level);
-    }
-
-    // Puts the clause that the last conflict taught into the trail, under its index in the log.
-    fn put(&mut self, index: u32) {
-        if let Ok(number) = self.trail.learn(&self.lits) {
-            self.indices[number as usize] = index;
-        }
-    }
-}
-
-// These variables met a conflict.
-fn bump_all(clause: &[Lit], order: &mut DecisionOrder) {
-    for l in clause {
-        order.bump(l.variable());
     }
 }
 
 // The numbers of the originals as their indices, and room for so many more.
-fn own_indices(alloc: Global, originals: u32, more: u32) -> Result<Vec<u32>, NoMemory> {
+fn own_indices(alloc: Global, originals: u32, more: u32) -> Result<Vec<u32>, NoMemory>
+    requires { originals + more ≤ MAX_INDEX }
+    ensures size { IfOk result (λ is. length is.items ≡ originals + more + 1) }
+    ensures own { IfOk result (λ is. (k : ℕ) → k ≤ originals → get_or is.items k 0 ≡ k) }
+{
     let mut indices = Vec::new(alloc);
     indices.resize(originals as usize + more as usize + 1, 0)?;
     for k in 0..originals {

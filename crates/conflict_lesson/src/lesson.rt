@@ -39,6 +39,7 @@ pub struct Over {
 
 impl Model for Lesson {
     ghost use Rattle.std.specs.Prelude.{◌≤◌, vec_capacity};
+    ghost use Rattle.clause_defs.specs.declared.verdict.TheConstants.{MAX_VARIABLE};
     ghost use Rattle.conflict_lesson.specs.Lessons.{Taught};
 
     ghost Value = { Taught };
@@ -49,7 +50,7 @@ impl Model for Lesson {
       antecedents = t.chain.antecedents;
     } };
 
-    ghost invariant = { λ t. t.chain.variables ≤ vec_capacity t.lits };
+    ghost invariant = { λ t. (t.chain.variables ≤ MAX_VARIABLE) × (t.chain.variables ≤ vec_capacity t.lits) };
 }
 
 impl Lesson {
@@ -62,6 +63,14 @@ impl Lesson {
             chain: ConflictChain::new(alloc, variables)?,
             lits: Vec::with_capacity(alloc, variables as usize)?,
         })
+    }
+
+    /// The greatest variable that a literal may have.
+    pub fn variables(&self) -> u32
+        ensures variables { result ≡ self.now.variables }
+        ensures few { result ≤ MAX_VARIABLE }
+    {
+        self.chain.variables()
     }
 
     /// Learns from the conflict of the clause with this index, on a level above 0.
@@ -133,7 +142,7 @@ impl Lesson {
     pub fn derive(&self, log: &mut Log, limit: u32) -> Result<u32, Over>
         requires lesson { (trail : Lits) × (levels : List ℕ)
             × IsLesson log.old trail levels self.now.antecedents self.now.lits }
-        requires few { log.old.originals.variables ≤ MAX_VARIABLE }
+        requires variables { self.now.variables ≡ log.old.originals.variables }
         requires is_new { IsNew log.old self.now.lits }
         requires none_empty { IsNew log.old [] }
         requires limit { limit ≤ log.old.budget }

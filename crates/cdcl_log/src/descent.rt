@@ -26,7 +26,7 @@ pub fn descend(trail: &mut Trail, order: &DecisionOrder, variables: u32) -> Opti
     ensures satisfied { IfNone result ((k : ℕ) (c : Lits)
         → clause_at trail.new.clauses k ≡ Some c → IsSatisfied trail.new.lits c) }
 {
-    loop {
+    'deciding: loop {
         match trail.propagate() {
             Some(number) => return Some(number),
             None => {

@@ -182,8 +182,7 @@ fn own_indices(alloc: Global, originals: u32, more: u32) -> Result<Vec<u32>, NoM
     ensures size { IfOk result (λ is. length is.items ≡ originals + more + 1) }
     ensures own { IfOk result (λ is. (k : ℕ) → k ≤ originals → get_or is.items k 0 ≡ k) }
 {
-    let mut indices = Vec::new(alloc);
-    indices.resize(originals as usize + more as usize + 1, 0)?;
+    let mut indices = vec![in alloc; 0u32; originals as usize + more as usize + 1]?;
     for k in 0..originals {
         indices[k as usize + 1] = k + 1;
     }

@@ -69,18 +69,18 @@ clause_live cs n (suc i) low high =
 pub solving_opened : (log : LogValue) (limit : ℕ) (t : Assigned) (indices : List ℕ) → log.derived ≡ [] → limit ≤ log.budget
     → IsOpened log.originals.variables log.originals.clauses limit limit t → length indices ≡ length log.originals.clauses + limit + 1
     → ((k : ℕ) → k ≤ length log.originals.clauses → get_or indices k 0 ≡ k) → IsSolving log (record { limit = limit; trail = t; indices = indices })
-solving_opened log limit t indices nothing limited open size_is own =
+solving_opened log limit t indices nothing limited begun size_is own =
     let cs = log.originals.clauses in
     let none : Words log.derived ≡ 0 = ap Words nothing in
     let few : length log.derived ≡ 0 = ap length nothing in
-    let held = open.held in
+    let held = begun.held in
     let long = ap (λ (os : List (Option Lits)). length os) held ∙ length-opened cs limit in
-    let room = open.room in
+    let room = begun.room in
     record {
       limited = limited;
       spent = omega arith;
       knows = record {
-        over = open.over;
+        over = begun.over;
         size = omega arith;
         known = λ k c live.
             let is = live_clause cs limit k c (subst (λ os. clause_at os k ≡ Some c) held live) in
@@ -103,6 +103,6 @@ solving_opened log limit t indices nothing limited open size_is own =
           );
       room = let a = ap (λ os. sum_by size os) held in let b = words_opened cs limit in omega arith;
       places = let a = ap (λ os. sum_by one os) held in let b = blocks_opened cs limit in omega arith;
-      settled = λ k c live b n less front. absurd (let level = open.level in omega arith);
+      settled = λ k c live b n less front. absurd (let level = begun.level in omega arith);
       none_empty = λ index derived. (let a = derived.behind_originals in let b = derived.within in absurd (omega arith));
     }

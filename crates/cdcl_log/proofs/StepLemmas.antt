@@ -5,6 +5,7 @@ use Rattle.clause_defs.specs.Clauses.{Lits, Has, SameSet}
 use Rattle.clause_laws.proofs.ClauseLemmas.{same_refl}
 use Rattle.log_defs.specs.Logs.{Derived, LogValue, Words, HasDerived, Extends, clause_of_log}
 use Rattle.log_defs.specs.Deriving.{IsTaken, with_derived}
+use Rattle.conflict_analysis.proofs.WalkLemmas.{some_length}
 use Rattle.pch_region.specs.Blocks.{size, one}
 use Rattle.trail_defs.specs.Trails.{Assigned, IsTrail, IsUpTo, HasSameClauses}
 use Rattle.settled_levels.specs.Levels.{IsTaught}
@@ -48,8 +49,8 @@ module _ (log : LogValue) (c : Lits) (antecedents : List ℕ) (index : ℕ) (lat
     pub words_left : sum_by size s.trail.clauses + length c ≤ s.trail.words
     words_left = let room = solving.room in let more = words_taken log c antecedents index later taken in omega arith
 
-    pub blocks_left : sum_by one s.trail.clauses < length s.trail.clauses
-    blocks_left = let places = solving.places in let more = words_taken log c antecedents index later taken in omega arith
+    pub blocks_left : (u : Literal) → Has c u → sum_by one s.trail.clauses < length s.trail.clauses
+    blocks_left u there = let some = some_length c u there in let places = solving.places in let more = words_taken log c antecedents index later taken in omega arith
 
     -- once the search went back and put it there, it goes on
     pub goes_on : IsTrail s.trail → (u : Literal) (b : ℕ) → IsTaught s.trail c u b

@@ -3,6 +3,7 @@
 
 ghost use Rattle.std.specs.Prelude.{◌≡◌, ℕ, true, ◌+◌, ◌<◌, ◌≤◌, ◌⊎◌, Some, None, IfSome, IfNone};
 ghost use Rattle.clause_defs.specs.Clauses.{Lits};
+ghost use Rattle.clause_defs.specs.declared.verdict.TheConstants.{MAX_VARIABLE};
 ghost use Rattle.trail_defs.specs.Assignments.{IsConflict, IsSatisfied, IsFree};
 ghost use Rattle.trail_defs.specs.Trails.{clause_at, IsTrail, HasSameClauses};
 ghost use Rattle.settled_levels.specs.Levels.{IsSettledBelow};
@@ -16,6 +17,7 @@ use sat_trail::Trail;
 /// is in conflict then, or None, where each variable has a value.
 pub fn descend(trail: &mut Trail, order: &DecisionOrder, variables: u32) -> Option<u32>
     requires variables { variables ≡ trail.old.variables }
+    requires few { variables ≤ MAX_VARIABLE }
     requires order { order.now ≡ variables + 1 }
     requires settled { IsSettledBelow trail.old }
     ensures settled { IsSettledBelow trail.new }
@@ -40,6 +42,7 @@ pub fn descend(trail: &mut Trail, order: &DecisionOrder, variables: u32) -> Opti
 // A literal of the variable without a value that has the greatest activity, if one is left.
 fn choose(trail: &Trail, order: &DecisionOrder, variables: u32) -> Option<Lit>
     requires variables { variables ≡ trail.now.variables }
+    requires few { variables ≤ MAX_VARIABLE }
     requires order { order.now ≡ variables + 1 }
     ensures free { IfSome result (λ l. IsFree trail.now.lits l) }
     ensures within { IfSome result (λ l. l.variable ≤ trail.now.variables) }

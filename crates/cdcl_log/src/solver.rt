@@ -35,6 +35,9 @@ pub struct Solver {
     restarts: Restarts,
 }
 
+// No learned clause has fewer words: its index, a literal and two zeros.
+const LEAST_WORDS: u32 = 4;
+
 impl Model for Solver {
     ghost use Rattle.std.specs.Prelude.{◌≡◌, ◌+◌};
     ghost use Rattle.search_defs.specs.Solving.{Solving};
@@ -58,8 +61,8 @@ impl Solver {
         let variables = set.variables();
         Ok(Solver {
             limit,
-            trail: Trail::open(alloc, set, limit, limit)?,
-            indices: own_indices(alloc, set.len(), limit)?,
+            trail: Trail::open(alloc, set, limit, limit / LEAST_WORDS)?,
+            indices: own_indices(alloc, set.len(), limit / LEAST_WORDS)?,
             lesson: Lesson::new(alloc, variables)?,
             order: DecisionOrder::new(alloc, variables)?,
             restarts: Restarts::new(),

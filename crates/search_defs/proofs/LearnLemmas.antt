@@ -1,5 +1,5 @@
 -- The search goes on after each of its steps.
-use Rattle.std.proofs.Common.{◌≡◌, ◌≢◌, ◌⊎◌, ℕ, zero, suc, ◌+◌, ◌<◌, ◌≤◌, List, [], ◌∷◌, ◌++◌, length, set, get_or, sum_by, Option, Some, None, inl, inr, refl, sym, ap, ◌∙◌, subst, arith, length-append, length-set, get_or-set_same, get_or-set_other}
+use Rattle.std.proofs.Common.{◌≡◌, ◌≢◌, ◌⊎◌, ℕ, zero, suc, ◌+◌, ◌*◌, ◌<◌, ◌≤◌, List, [], ◌∷◌, ◌++◌, length, set, get_or, sum_by, Option, Some, None, inl, inr, refl, sym, ap, ◌∙◌, subst, arith, length-append, length-set, get_or-set_same, get_or-set_other}
 use Rattle.std.proofs.lemmas.Bool.{cases_eq, cases_lt}
 use Rattle.std.proofs.lemmas.List.Sums.{sum_by-set, sum_by_push}
 use Rattle.clause_defs.specs.Literals.{Literal}
@@ -7,6 +7,7 @@ use Rattle.clause_defs.specs.Clauses.{Lits, Has, SameSet}
 use Rattle.log_defs.specs.Logs.{Derived, LogValue, words_of, Words, IsIndexOf, HasDerived, clause_of_log}
 use Rattle.log_defs.specs.Deriving.{IsNew, with_derived}
 use Rattle.log_laws.proofs.LogLemmas.{clause_with-before, clause_with-derived, derived_at-last}
+use Rattle.conflict_analysis.proofs.WalkLemmas.{some_length}
 use Rattle.pch_region.specs.Blocks.{size, one}
 use Rattle.trail_defs.specs.Trails.{Assigned, clause_at, IsTrail, HasSameClauses}
 use Rattle.settled_levels.specs.Levels.{IsSettledBelow, IsTaught, IsOpenBelow}
@@ -176,6 +177,7 @@ module _ (log : LogValue) (s : Solving) (solving : IsSolving log s) (known : IsT
         let places = solving.places in
         let held = ap (λ os. sum_by one os) clauses_are in
         let many = longer in
+        let some = some_length d.lits u taught.there in
         let more = sum_by-set one s.trail.clauses j (Some d.lits) None was_inside in
         let none = ap one was_fresh in
         let all = sum_by_push words_of log.derived d in omega arith;

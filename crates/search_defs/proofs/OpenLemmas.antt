@@ -1,5 +1,5 @@
 -- The search begins with the clauses of the formula.
-use Rattle.std.proofs.Common.{◌≡◌, ℕ, zero, suc, ◌+◌, ◌-◌, ◌<◌, ◌≤◌, List, [], ◌∷◌, ◌++◌, length, map, replicate, sum_by, get_or, Option, Some, None, inl, inr, refl, sym, ap, ◌∙◌, subst, arith, length-append}
+use Rattle.std.proofs.Common.{◌≡◌, ℕ, zero, suc, ◌+◌, ◌-◌, ◌*◌, ◌/◌, ◌<◌, ◌≤◌, List, [], ◌∷◌, ◌++◌, length, map, replicate, sum_by, get_or, Option, Some, None, inl, inr, refl, sym, ap, ◌∙◌, subst, arith, length-append}
 use Rattle.std.proofs.lemmas.Bool.{cases_lt}
 use Rattle.std.proofs.lemmas.List.{get_or-map, get_or_past, get_or_append_left, get_or-append_right, get_or-replicate, length-map, length-replicate}
 use Rattle.std.proofs.lemmas.List.Sums.{sum_by-cons}
@@ -67,14 +67,14 @@ clause_live cs n (suc i) low high =
     let place : suc i - 1 ≡ i = omega arith in at_clause cs n i (omega arith) ∙ ap (λ m. Some (get_or cs m [])) (sym place)
 
 pub solving_opened : (log : LogValue) (limit : ℕ) (t : Assigned) (indices : List ℕ) → log.derived ≡ [] → limit ≤ log.budget
-    → IsOpened log.originals.variables log.originals.clauses limit limit t → length indices ≡ length log.originals.clauses + limit + 1
+    → IsOpened log.originals.variables log.originals.clauses limit (limit / 4) t → length indices ≡ length log.originals.clauses + limit / 4 + 1
     → ((k : ℕ) → k ≤ length log.originals.clauses → get_or indices k 0 ≡ k) → IsSolving log (record { limit = limit; trail = t; indices = indices })
 solving_opened log limit t indices nothing limited begun size_is own =
     let cs = log.originals.clauses in
     let none : Words log.derived ≡ 0 = ap Words nothing in
     let few : length log.derived ≡ 0 = ap length nothing in
     let held = begun.held in
-    let long = ap (λ (os : List (Option Lits)). length os) held ∙ length-opened cs limit in
+    let long = ap (λ (os : List (Option Lits)). length os) held ∙ length-opened cs (limit / 4) in
     let room = begun.room in
     record {
       limited = limited;
@@ -83,7 +83,7 @@ solving_opened log limit t indices nothing limited begun size_is own =
         over = begun.over;
         size = omega arith;
         known = λ k c live.
-            let is = live_clause cs limit k c (subst (λ os. clause_at os k ≡ Some c) held live) in
+            let is = live_clause cs (limit / 4) k c (subst (λ os. clause_at os k ≡ Some c) held live) in
             let low = is.0 in
             let high = is.1 in
             let at = own k high in
@@ -98,11 +98,11 @@ solving_opened log limit t indices nothing limited begun size_is own =
           (
             index,
             get_or cs (index - 1) [],
-            subst (λ os. clause_at os index ≡ Some (get_or cs (index - 1) [])) (sym held) (clause_live cs limit index low high),
+            subst (λ os. clause_at os index ≡ Some (get_or cs (index - 1) [])) (sym held) (clause_live cs (limit / 4) index low high),
             own index high,
           );
-      room = let a = ap (λ os. sum_by size os) held in let b = words_opened cs limit in omega arith;
-      places = let a = ap (λ os. sum_by one os) held in let b = blocks_opened cs limit in omega arith;
+      room = let a = ap (λ os. sum_by size os) held in let b = words_opened cs (limit / 4) in omega arith;
+      places = let a = ap (λ os. sum_by one os) held in let b = blocks_opened cs (limit / 4) in omega arith;
       settled = λ k c live b n less front. absurd (let level = begun.level in omega arith);
       none_empty = λ index derived. (let a = derived.behind_originals in let b = derived.within in absurd (omega arith));
     }

@@ -1,5 +1,5 @@
 -- A search by clause learning that writes its proof into a log.
-use Rattle.std.specs.Prelude.{◌≡◌, ℕ, ◌+◌, ◌<◌, ◌≤◌, List, [], length, get_or, set, Some, None}
+use Rattle.std.specs.Prelude.{◌≡◌, ℕ, ◌+◌, ◌*◌, ◌<◌, ◌≤◌, List, [], length, get_or, set, Some, None}
 use Rattle.clause_defs.specs.Clauses.{Lits}
 use Rattle.log_defs.specs.Logs.{LogValue, Words, IsIndexOf, clause_of_log}
 use Rattle.log_defs.specs.Deriving.{IsNew}
@@ -24,15 +24,16 @@ pub record Knows (log : LogValue) (t : Assigned) (indices : List ℕ) : Type 0 w
 abbrev pub IsLive : Assigned → List ℕ → ℕ → Type 0
 IsLive t indices index = (k : ℕ) × (c : Lits) × (clause_at t.clauses k ≡ Some c) × (get_or indices k 0 ≡ index)
 
--- Every clause of the log is live; there is room for what the limit leaves; each level that was left was left with
--- every live clause settled; and no derived clause is empty.
+-- Every clause of the log is live; there is room for what the limit leaves, where a clause that is learned has four
+-- words at least: its index, a literal and two zeros; each level that was left was left with every live clause
+-- settled; and no derived clause is empty.
 pub record IsSolving (log : LogValue) (s : Solving) : Type 0 where
   pub limited : s.limit ≤ log.budget
   pub spent : Words log.derived ≤ s.limit
   pub knows : Knows log s.trail s.indices
   pub live : (index : ℕ) → IsIndexOf log index → IsLive s.trail s.indices index
   pub room : words_of s.trail.clauses + s.limit ≤ s.trail.words + Words log.derived
-  pub places : blocks_of s.trail.clauses + s.limit ≤ length s.trail.clauses + Words log.derived
+  pub places : 4 * blocks_of s.trail.clauses + s.limit ≤ 4 * length s.trail.clauses + Words log.derived + 3
   pub settled : IsSettledBelow s.trail
   pub none_empty : IsNew log []
 

@@ -1,4 +1,4 @@
-ghost use Rattle.std.specs.Prelude.{◌≡◌, ℕ, suc, ◌+◌, ◌<◌, ◌≤◌, ◌++◌, List, [], ◌∷◌, length, set, get_or, Some};
+ghost use Rattle.std.specs.Prelude.{◌≡◌, ℕ, suc, ◌+◌, ◌/◌, ◌<◌, ◌≤◌, ◌++◌, List, [], ◌∷◌, length, set, get_or, Some};
 ghost use Rattle.clause_defs.specs.Literals.{Literal};
 ghost use Rattle.clause_defs.specs.Clauses.{Lits};
 ghost use Rattle.log_defs.specs.Logs.{Derived, LogValue, Words};
@@ -13,8 +13,8 @@ ghost use Rattle.search_defs.specs.Ends.{IsTotal, IsPoint};
 /// derived.
 pub fn a_search_begins()
     ensures { (log : LogValue) (limit : ℕ) (t : Assigned) (indices : List ℕ) → log.derived ≡ [] → limit ≤ log.budget
-        → IsOpened log.originals.variables log.originals.clauses limit limit t
-        → length indices ≡ length log.originals.clauses + limit + 1
+        → IsOpened log.originals.variables log.originals.clauses limit (limit / 4) t
+        → length indices ≡ length log.originals.clauses + limit / 4 + 1
         → ((k : ℕ) → k ≤ length log.originals.clauses → get_or indices k 0 ≡ k)
         → IsSolving log (record { limit = limit; trail = t; indices = indices }) }
 {}

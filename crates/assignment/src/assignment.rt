@@ -75,7 +75,8 @@ impl Assignment {
 
     /// The literals, in their order.
     pub fn literals(&self) -> &[Lit]
-        ensures { result.now ≡ self.now.lits }
+        ensures lits { result.now ≡ self.now.lits }
+        ensures known { IsAssignmentOf self.now.variables self.now.lits }
     {
         &self.lits
     }

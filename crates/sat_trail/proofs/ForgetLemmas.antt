@@ -8,10 +8,10 @@ use Rattle.link_lists.specs.Linked.{Linked, list_at}
 use Rattle.trail_defs.specs.Assignments.{IsAt}
 use Rattle.trail_defs.specs.Trails.{clause_at, IsReason}
 use Rattle.sat_trail.specs.Watching.{lit_at, other, lits_in, lits_at, IsBound, IsWatched}
-use Rattle.sat_trail.specs.Stages.{stage_at}
 use Rattle.sat_trail.specs.Kept.{IsKept}
 use Rattle.sat_trail.specs.Releases.{IsWithout, IsReleased, AreReleased}
 use Rattle.sat_trail.specs.declared.levels.Stage.{Stage}
+use Rattle.sat_trail.proofs.StageLemmas.{stages_still}
 use Rattle.sat_trail.proofs.PlaceLemmas.{at_has}
 
 -- no watch stands in a list that isn't there
@@ -116,14 +116,7 @@ module _ (variables originals : ℕ) (clauses : List (Option Lits)) (t : Lits) (
           (was.0, subst (λ o. o ≢ None) (sym (at_other (w / 2) (not_loose w was.0 h))) was.1);
       left = released.left;
     };
-    stages_are = record {
-      passed = kept.stages_are.passed;
-      now = watched_still t (take done t) kept.stages_are.now;
-      each = λ j lt.
-          let e = kept.stages_are.each j lt in
-          (e.0, watched_still (take (stage_at stages j).len t) (take (stage_at stages j).done t) e.1);
-      rising = kept.stages_are.rising;
-    };
+    stages_are = stages_still clauses clauses2 (list_at links.lists 1) (list_at links2.lists 1) watch t done stages watched_still kept.stages_are;
     marked = record {
       level_size = kept.marked.level_size;
       reason_size = kept.marked.reason_size;

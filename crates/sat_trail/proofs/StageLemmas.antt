@@ -166,3 +166,14 @@ module _ (clauses : List (Option Lits)) (loose : List ℕ) (watch t : Lits) wher
             let up = are.rising i j low (omega arith) in
             omega arith;
       }
+
+-- where whatever was watched still is, by other clauses, the stages are watched by these
+pub stages_still : (clauses clauses2 : List (Option Lits)) (loose loose2 : List ℕ) (watch t : Lits) (done : ℕ) (stages : List Stage)
+    → ((u passed : Lits) → IsWatched clauses loose watch u passed → IsWatched clauses2 loose2 watch u passed)
+    → AreStages clauses loose watch t done stages → AreStages clauses2 loose2 watch t done stages
+stages_still clauses clauses2 loose loose2 watch t done stages still are = record {
+  passed = are.passed;
+  now = still t (take done t) are.now;
+  each = λ j lt. let e = are.each j lt in (e.0, still (take (stage_at stages j).len t) (take (stage_at stages j).done t) e.1);
+  rising = are.rising;
+}

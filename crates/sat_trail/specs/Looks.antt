@@ -52,3 +52,10 @@ pub record IsResting (clauses : List (Option Lits)) (variables : ℕ) (watch : L
 pub record HasMarks (variables : ℕ) (levels reasons : List ℕ) : Type 0 where
   pub level_size : length levels ≡ variables + 1
   pub reason_size : length reasons ≡ variables + 1
+
+-- no watches are being visited, and those of the first `done` literals are watched
+pub record IsPassing (clauses : List (Option Lits)) (variables : ℕ) (watch : Lits) (links : Linked) (t : Lits) (levels reasons : List ℕ) (done : ℕ) : Type 0 where
+  pub resting : IsResting clauses variables watch links
+  pub marks : HasMarks variables levels reasons
+  pub watched : IsWatched clauses (list_at links.lists 1) watch t (take done t)
+  pub passed : done ≤ length t

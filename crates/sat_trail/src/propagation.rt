@@ -1,13 +1,12 @@
 //! Propagation: each literal that became true is passed on to the watches of its negation, until none is left,
 //! and then the loose clauses are looked at; if these forced literals, it goes on.
 
-ghost use Rattle.std.specs.Prelude.{◌≡◌, ℕ, ◌≤◌, length, take, get_or, None, Some, IfSome, IfNone};
+ghost use Rattle.std.specs.Prelude.{◌≡◌, ℕ, length, get_or, Some, IfSome, IfNone};
 ghost use Rattle.clause_defs.specs.Clauses.{Lits};
 ghost use Rattle.link_lists.specs.Linked.{list_at};
 ghost use Rattle.trail_defs.specs.Assignments.{IsSettled};
-ghost use Rattle.sat_trail.specs.Watching.{IsWatched};
 ghost use Rattle.sat_trail.specs.Visits.{IsInConflict};
-ghost use Rattle.sat_trail.specs.Looks.{IsResting, HasMarks, Keeps};
+ghost use Rattle.sat_trail.specs.Looks.{Keeps, IsPassing};
 
 use crate::levels::Values;
 use crate::loose::settle_loose;
@@ -23,18 +22,12 @@ fn pass_on(
     level: u32,
     done: &mut u32,
 ) -> Option<u32>
-    requires resting { IsResting region.now.held values.old.assignment.variables
-        watches.old.watch.items watches.old.links }
-    requires marks { HasMarks values.old.assignment.variables values.old.levels.items values.old.reasons.items }
-    requires watched { IsWatched region.now.held (list_at watches.old.links.lists 1) watches.old.watch.items
-        values.old.assignment.lits (take done.old values.old.assignment.lits) }
-    requires passed { done.old ≤ length values.old.assignment.lits }
-    ensures resting { IsResting region.now.held values.new.assignment.variables
-        watches.new.watch.items watches.new.links }
-    ensures marks { HasMarks values.new.assignment.variables values.new.levels.items values.new.reasons.items }
-    ensures watched { IsWatched region.now.held (list_at watches.new.links.lists 1) watches.new.watch.items
-        values.new.assignment.lits (take done.new values.new.assignment.lits) }
-    ensures passed { done.new ≤ length values.new.assignment.lits }
+    requires passing { IsPassing region.now.held values.old.assignment.variables
+        watches.old.watch.items watches.old.links values.old.assignment.lits
+        values.old.levels.items values.old.reasons.items done.old }
+    ensures passing { IsPassing region.now.held values.new.assignment.variables
+        watches.new.watch.items watches.new.links values.new.assignment.lits
+        values.new.levels.items values.new.reasons.items done.new }
     ensures variables { values.new.assignment.variables ≡ values.old.assignment.variables }
     ensures keeps { Keeps region.now.held values.old.assignment.variables level
         (list_at watches.old.links.lists 1) (list_at watches.new.links.lists 1)
@@ -63,19 +56,13 @@ pub fn propagate(
     level: u32,
     done: &mut u32,
 ) -> Option<u32>
-    requires resting { IsResting region.now.held values.old.assignment.variables
-        watches.old.watch.items watches.old.links }
-    requires marks { HasMarks values.old.assignment.variables values.old.levels.items values.old.reasons.items }
-    requires watched { IsWatched region.now.held (list_at watches.old.links.lists 1) watches.old.watch.items
-        values.old.assignment.lits (take done.old values.old.assignment.lits) }
-    requires passed { done.old ≤ length values.old.assignment.lits }
-    ensures resting { IsResting region.now.held values.new.assignment.variables
-        watches.new.watch.items watches.new.links }
-    ensures marks { HasMarks values.new.assignment.variables values.new.levels.items values.new.reasons.items }
-    ensures watched { IsWatched region.now.held (list_at watches.new.links.lists 1) watches.new.watch.items
-        values.new.assignment.lits (take done.new values.new.assignment.lits) }
-    ensures passed { done.new ≤ length values.new.assignment.lits }
+    requires passing { IsPassing region.now.held values.old.assignment.variables
+        watches.old.watch.items watches.old.links values.old.assignment.lits
+        values.old.levels.items values.old.reasons.items done.old }
     ensures variables { values.new.assignment.variables ≡ values.old.assignment.variables }
+    ensures passing { IsPassing region.now.held values.new.assignment.variables
+        watches.new.watch.items watches.new.links values.new.assignment.lits
+        values.new.levels.items values.new.reasons.items done.new }
     ensures keeps { Keeps region.now.held values.old.assignment.variables level
         (list_at watches.old.links.lists 1) (list_at watches.new.links.lists 1)
         watches.old.watch.items values.old.assignment.lits

@@ -3,7 +3,7 @@ ghost use Rattle.clause_defs.specs.Literals.{Literal};
 ghost use Rattle.clause_defs.specs.Clauses.{Lits, Has, IsClause, WithinVariables};
 ghost use Rattle.pch_region.specs.Blocks.{words_of, blocks_of, AreAllNames};
 ghost use Rattle.trail_defs.specs.Assignments.{IsAt, IsFree, IsSettled, IsConflict};
-ghost use Rattle.trail_defs.specs.Trails.{clause_at, reason_of, IsTrail, IsOpened, IsUpTo, IsGrown, HasSameClauses, IsNoReason, HasSameValues};
+ghost use Rattle.trail_defs.specs.Trails.{clause_at, level_of, reason_of, IsTrail, IsOpened, IsUpTo, IsGrown, HasSameClauses, IsNoReason, HasSameValues};
 ghost use Rattle.sat_trail.specs.Loading.{IsLoading, AreLoadedLists};
 
 use crate::levels::{Stage, Values, imply};
@@ -116,6 +116,9 @@ impl Trail {
         ensures levels { self.new.levels ≡ set self.old.levels l.variable (self.old.present + 1) }
         ensures reasons { self.new.reasons ≡ set self.old.reasons l.variable 0 }
         ensures present { self.new.present ≡ self.old.present + 1 }
+        ensures own { level_of self.new l ≡ self.old.present + 1 }
+        ensures others { (m : Literal) → Has self.old.lits m
+            → level_of self.new m ≡ level_of self.old m }
         ensures same { HasSameClauses self.old self.new }
     {
         let stage = Stage {
@@ -167,6 +170,15 @@ impl Trail {
         }
     }
 
+    /// How many variables there are; they are numbered from 1.
+    pub fn variables(&self) -> u32
+        ensures variables { result ≡ self.now.variables }
+        ensures known { IsTrail self.now }
+    {
+        let _ = self.len();
+        self.values.assignment.variables()
+    }
+
     /// The value of a variable, if it has one.
     pub fn value(&self, v: u32) -> Option<bool>
         requires low { 1 ≤ v }
@@ -209,6 +221,7 @@ impl Trail {
         ensures literals { result.now ≡ self.now.lits }
         ensures known { IsTrail self.now }
     {
+        let _ = self.len();
         self.values.assignment.literals()
     }
 
@@ -218,6 +231,7 @@ impl Trail {
         ensures size { self.now.variables < length result.now }
         ensures known { IsTrail self.now }
     {
+        let _ = self.len();
         &self.values.levels
     }
 
@@ -227,20 +241,25 @@ impl Trail {
         ensures size { self.now.variables < length result.now }
         ensures known { IsTrail self.now }
     {
+        let _ = self.len();
         &self.values.reasons
     }
 
     /// The present level: how many levels are open.
     pub fn present(&self) -> u32
-        ensures { result ≡ self.now.present }
+        ensures present { result ≡ self.now.present }
+        ensures known { IsTrail self.now }
     {
+        let _ = self.len();
         self.present
     }
 
     /// Whether the clause of this number is live.
     pub fn is_live(&self, c: u32) -> bool
-        ensures { IsTrue result ↔ (clause_at self.now.clauses c ≢ None) }
+        ensures live { IsTrue result ↔ (clause_at self.now.clauses c ≢ None) }
+        ensures known { IsTrail self.now }
     {
+        let _ = self.len();
         c > 0 && self.region.is_live(Block::from_name(c - 1))
     }
 
@@ -265,8 +284,10 @@ impl Trail {
     pub fn level(&self, v: u32) -> u32
         requires given { (l : Literal) × Has self.now.lits l × (l.variable ≡ v) }
         requires high { v ≤ self.now.variables }
-        ensures { result ≡ get_or self.now.levels v 0 }
+        ensures level { result ≡ get_or self.now.levels v 0 }
+        ensures known { IsTrail self.now }
     {
+        let _ = self.len();
         self.values.levels[v as usize]
     }
 
@@ -287,6 +308,7 @@ impl Trail {
         requires within { WithinVariables self.old.variables lits.now }
         ensures fresh { IfOk result (λ k. clause_at self.old.clauses k ≡ None) }
         ensures high { IfOk result (λ k. self.old.originals < k) }
+        ensures within { IfOk result (λ k. k ≤ length self.old.clauses) }
         ensures clauses { IfOk result (λ k. self.new.clauses ≡ set self.old.clauses (k - 1) (Some lits.now)) }
         ensures fits { IfOk result (λ _. words_of self.old.clauses + length lits.now ≤ self.old.words) }
         ensures free { IfOk result (λ _. blocks_of self.old.clauses < length self.old.clauses) }

@@ -1,6 +1,7 @@
-use Rattle.std.proofs.Common.{◌≡◌, ◌≤◌, ◌+◌, length, refl, sym, ap, ◌∙◌, subst, arith}
+use Rattle.std.proofs.Common.{◌≡◌, ◌<◌, ◌≤◌, ◌+◌, length, get_or, refl, sym, ap, ◌∙◌, subst, arith, get_or-set_same, get_or-set_other}
 use Rattle.std.proofs.lemmas.List.{length_push}
 use Rattle.trail_defs.specs.Assignments.{IsFree}
+use Rattle.assignment.proofs.ApartLemmas.{free_apart}
 use Rattle.trail_defs.specs.Trails.{Assigned}
 use Rattle.link_lists.specs.Linked.{list_at}
 use Rattle.sat_trail.proofs.TrailLemmas.{few_stages}
@@ -42,3 +43,21 @@ invariant_of-self c =
       omega arith,
       omega arith,
     )
+
+-- its level is the new one
+pub returns-clause-own : goal.returns-clause-own
+returns-clause-own c =
+    let seen = ap (λ (a : Assigned). a.variables) c.self.view_is in
+    let size = c.self.invariant.0.marked.level_size in
+    let inside : c.args.l.variable < length c.self.inside.values.levels.items = let a = c.requires.within in omega arith in
+    ap (λ ls. get_or ls c.args.l.variable 0) c.imply.ensures.levels
+    ∙ get_or-set_same c.self.inside.values.levels.items c.args.l.variable (c.self.inside.present + 1) 0 inside
+    ∙ ap (λ (a : Assigned). a.present + 1) c.self.view_is
+
+-- the others keep theirs
+pub returns-clause-others : goal.returns-clause-others
+returns-clause-others c m has =
+    let apart = free_apart c.args.self.now.lits c.args.l c.requires.free m has in
+    ap (λ ls. get_or ls m.variable 0) c.imply.ensures.levels
+    ∙ get_or-set_other c.self.inside.values.levels.items c.args.l.variable m.variable (c.self.inside.present + 1) 0 apart
+    ∙ ap (λ (a : Assigned). get_or a.levels m.variable 0) c.self.view_is

@@ -10,8 +10,8 @@ index-requires c =
     let high = c.requires.high in
     omega arith
 
-pub returns : goal.returns
-returns c =
+pub returns-clause-level : goal.returns-clause-level
+returns-clause-level c =
     let size = c.self.invariant.0.marked.level_size in
     let seen = ap (λ (a : Assigned). a.variables) c.self.view_is in
     let high = c.requires.high in

@@ -10,7 +10,7 @@ invariant_of-self c = (
           c.self.inside.stages.items c.self.inside.done c.self.inside.watches.watch.items c.self.inside.watches.links c.self.invariant.0
       c.propagate.new.values.assignment.variables c.self.inside.present c.propagate.ensures.variables c.self.invariant.2
       c.propagate.new.values.assignment.lits c.propagate.new.values.levels.items c.propagate.new.values.reasons.items c.propagate.new.done c.propagate.new.watches.watch.items c.propagate.new.watches.links
-      c.propagate.ensures.resting c.propagate.ensures.passed c.propagate.ensures.watched c.propagate.ensures.keeps,
+      c.propagate.ensures.passing.resting c.propagate.ensures.passing.passed c.propagate.ensures.passing.watched c.propagate.ensures.keeps,
   let same = c.propagate.ensures.variables in let room = c.self.invariant.1 in omega arith,
   c.self.invariant.2,
 )

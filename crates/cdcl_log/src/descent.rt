@@ -49,7 +49,7 @@ fn choose(trail: &Trail, order: &DecisionOrder, variables: u32) -> Option<Lit>
     ensures none { IfNone result (IsTotal trail.now) }
     ensures known { IsTrail trail.now }
 {
-    let _literals = trail.literals();
+    let _present = trail.present();
     let mut best = None;
     for v in 1..variables + 1 {
         match trail.value(v) {

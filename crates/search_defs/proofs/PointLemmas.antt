@@ -35,6 +35,7 @@ has_number (d ∷ ds) c (inr h) = let rest = has_number ds c h in (suc rest.0, l
 pub point_reached : (log : LogValue) (s : Solving) → IsSolving log s → IsTotal s.trail
     → ((k : ℕ) (c : Lits) → clause_at s.trail.clauses k ≡ Some c → IsSatisfied s.trail.lits c) → IsPoint log s
 point_reached log s solving total satisfied = record {
+  over = solving.knows.over;
   total = total;
   satisfied = λ c h.
       let at = has_number log.originals.clauses c h in

@@ -16,6 +16,7 @@ IsTotal t = (v : ℕ) → 1 ≤ v → v ≤ t.variables → (l : Literal) × Has
 
 -- each variable has a value, and each clause of the formula a true literal
 pub record IsPoint (log : LogValue) (s : Solving) : Type 0 where
+  pub over : s.trail.variables ≡ log.originals.variables
   pub total : IsTotal s.trail
   pub satisfied : (c : Lits) → Has log.originals.clauses c → IsSatisfied s.trail.lits c
   pub not_empty : IsNew log []

@@ -25,8 +25,8 @@ stages_same clauses loose loose2 watch t done stages same are = record {
   passed = are.passed;
   now = watched_same clauses loose loose2 watch t (take done t) same are.now;
   each = λ j lt.
-    let e = are.each j lt in
-    (e.0, watched_same clauses loose loose2 watch (take (stage_at stages j).len t) (take (stage_at stages j).done t) same e.1);
+      let e = are.each j lt in
+      (e.0, watched_same clauses loose loose2 watch (take (stage_at stages j).len t) (take (stage_at stages j).done t) same e.1);
   rising = are.rising;
 }
 
@@ -34,20 +34,21 @@ stages_same clauses loose loose2 watch t done stages same are = record {
 
 module _ (clauses : List (Option Lits)) (loose loose2 : List ℕ) (watch : Lits) (b : ℕ) (first second : Literal)
     (was : (w : ℕ) → Has loose w ↔ ((w ≡ 2 * b) ⊎ Has loose2 w)) (gone : Has loose2 (2 * b) → ⊥) where
-
   -- a clause that is bound now was bound, or is this one
   pub bound_cases : (w : ℕ) → IsBound clauses loose2 w → IsBound clauses loose w ⊎ (w / 2 ≡ b)
   bound_cases w bound = elim (cases_eq (w / 2) b) [
     | inl e ↦ inr e
-    | inr ne ↦ inl (record { live = bound.live; tied = λ h. elim ((was (2 * (w / 2))).0 h) [
+    | inr ne ↦ inl (record {
+      live = bound.live;
+      tied = λ h. elim ((was (2 * (w / 2))).0 h) [
         | inl same ↦ ne (omega arith)
         | inr there ↦ bound.tied there
-      ] })
+      ];
+    })
   ]
 
   module _ (later : Lits) (size : length later ≡ length watch) (at_first : lit_at later (2 * b) ≡ first) (at_second : lit_at later (2 * b + 1) ≡ second)
       (others : (w : ℕ) → w / 2 ≢ b → lit_at later w ≡ lit_at watch w) where
-
     -- What was watched stays so: the first new watch binds nothing, and where the second one is false the first one
     -- is true.
     pub bound_watched : (t passed : Lits) → (Has passed (negation first) → ⊥) → (Has passed (negation second) → Has t first)

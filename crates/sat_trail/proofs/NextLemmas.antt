@@ -83,5 +83,5 @@ keeps_forced clauses variables level loose loose2 watch later t levels reasons n
     (subst (λ ks. Keeps clauses variables level loose loose2 watch t levels reasons later (t ++ l ∷ []) ks reasons2) (sym el)
     (subst (Keeps clauses variables level loose loose2 watch t levels reasons later (t ++ l ∷ []) (set levels l.variable level)) (sym er)
     (keeps_on clauses variables level loose loose2 loose2 watch t levels reasons later t levels reasons later (t ++ l ∷ []) (set levels l.variable level) (set reasons l.variable number)
-        keeps
-        (keeps_put clauses variables level loose2 loose2 loose2 later t levels reasons l number free within marks.level_size marks.reason_size (reason_some clauses t number l reason) reason))))
+    keeps
+    (keeps_put clauses variables level loose2 loose2 loose2 later t levels reasons l number free within marks.level_size marks.reason_size (reason_some clauses t number l reason) reason))))

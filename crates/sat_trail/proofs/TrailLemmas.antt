@@ -24,7 +24,6 @@ has_place_before t n l le has =
 
 module _ (clauses : List (Option Lits)) (variables : ℕ) (t : Lits) (levels reasons : List ℕ) (stages : List Stage)
     (marked : AreMarked clauses variables t levels reasons stages) where
-
   -- a literal that was decided is the first of its level
   pub first_of_level : (i : ℕ) (l m : Literal) → IsAt t i l → get_or reasons l.variable 0 ≡ 0 → Has (take i t) m
       → get_or levels m.variable 0 ≢ get_or levels l.variable 0
@@ -67,7 +66,6 @@ module _ (clauses : List (Option Lits)) (variables : ℕ) (t : Lits) (levels rea
 
 module _ (clauses : List (Option Lits)) (loose : List ℕ) (watch t : Lits) (done : ℕ) (stages : List Stage)
     (are : AreStages clauses loose watch t done stages) where
-
   stage_low : (j : ℕ) → j < length stages → j ≤ (stage_at stages j).len
   stage_low zero lt = omega arith
   stage_low (suc j) lt = let a = stage_low j (omega arith) in let b = are.rising j (suc j) (omega arith) lt in omega arith

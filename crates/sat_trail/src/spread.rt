@@ -30,7 +30,13 @@ pub enum Look {
 }
 
 // Visits the next watch of `x`, and gives the literal that it forces its value.
-fn visit_next(region: &Region, watches: &mut Watches, values: &mut Values, level: u32, x: Lit) -> Look
+fn visit_next(
+    region: &Region,
+    watches: &mut Watches,
+    values: &mut Values,
+    level: u32,
+    x: Lit,
+) -> Look
     requires visiting { IsVisiting region.now.held values.old.assignment.variables
         watches.old.watch.items watches.old.links x }
     requires marks { HasMarks values.old.assignment.variables values.old.levels.items values.old.reasons.items }

@@ -79,7 +79,10 @@ fn a_conflict_has_its_reason(rt: HostRuntime) -> Result<(), Fail> {
     let alloc = rt.alloc();
     let mut list = Clauses::new(alloc);
     for signs in [[1, 1], [-1, 1], [1, -1], [-1, -1]] {
-        let lits = [Lit::from_parts(1, signs[0] == 1), Lit::from_parts(2, signs[1] == 1)];
+        let lits = [
+            Lit::from_parts(1, signs[0] == 1),
+            Lit::from_parts(2, signs[1] == 1),
+        ];
         list.push(&Clause::from_lits(alloc, &lits)?)?;
     }
     let mut trail = match opened(alloc, 2, list)? {
@@ -112,7 +115,10 @@ impl Numbers {
         requires { 1 ≤ n }
         ensures { result < n }
     {
-        self.state = self.state.wrapping_mul(1_664_525).wrapping_add(1_013_904_223);
+        self.state = self
+            .state
+            .wrapping_mul(1_664_525)
+            .wrapping_add(1_013_904_223);
         (self.state >> 16) % n
     }
 
@@ -124,7 +130,11 @@ impl Numbers {
     fn clause(&mut self, alloc: Global) -> Result<Clause, NoMemory> {
         let first = self.literal();
         let second = self.literal();
-        let third = if self.below(2) == 0 { first } else { self.literal() };
+        let third = if self.below(2) == 0 {
+            first
+        } else {
+            self.literal()
+        };
         Ok(Clause::from_lits(alloc, &[first, second, third])?)
     }
 }
@@ -194,12 +204,16 @@ impl Walk {
 }
 
 // Whether they do at each of so many steps.
-fn walk(alloc: Global, seed: u32, steps: u32) -> Result<bool, NoMemory> {
+fn walk_agrees(alloc: Global, seed: u32, steps: u32) -> Result<bool, NoMemory> {
     let trail = match opened(alloc, VARIABLES, Clauses::new(alloc))? {
         Some(trail) => trail,
         None => return Ok(false),
     };
-    let mut walk = Walk { trail, clauses: Clauses::new(alloc), decisions: Vec::new(alloc) };
+    let mut walk = Walk {
+        trail,
+        clauses: Clauses::new(alloc),
+        decisions: Vec::new(alloc),
+    };
     let mut numbers = Numbers { state: seed };
     for _ in 0..steps {
         walk.step(alloc, &mut numbers)?;
@@ -213,7 +227,7 @@ fn walk(alloc: Global, seed: u32, steps: u32) -> Result<bool, NoMemory> {
 #[test]
 fn a_trail_agrees_with_a_plain_program(rt: HostRuntime) -> Result<(), Fail> {
     for seed in 0..100 {
-        assert!(rt; walk(rt.alloc(), seed, 60)?);
+        assert!(rt; walk_agrees(rt.alloc(), seed, 60)?);
     }
     Ok(())
 }

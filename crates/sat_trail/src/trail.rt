@@ -57,8 +57,8 @@ impl Model for Trail {
         IsKept t.values.assignment.variables t.originals t.region.held t.values.assignment.lits
         t.values.levels.items t.values.reasons.items t.stages.items t.done
         t.watches.watch.items t.watches.links
-      × (t.values.assignment.variables ≤ vec_capacity t.stages)
-      × (t.present ≡ length t.stages.items) };
+        × (t.values.assignment.variables ≤ vec_capacity t.stages)
+        × (t.present ≡ length t.stages.items) };
 }
 
 impl Trail {

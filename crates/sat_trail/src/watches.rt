@@ -41,9 +41,7 @@ impl Watches {
         requires left { list_at self.old.links.lists 0 ≡ [] }
         ensures watch { self.new.watch ≡ self.old.watch }
         ensures size { self.new.links.size ≡ self.old.links.size }
-        ensures lists {
-            AreReleased self.old.links.lists self.old.watch.items place self.new.links.lists
-        }
+        ensures lists { AreReleased self.old.links.lists self.old.watch.items place self.new.links.lists }
     {
         let first = 2 * place;
         let list = self.watch[first as usize].code();

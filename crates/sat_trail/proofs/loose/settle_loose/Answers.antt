@@ -47,8 +47,8 @@ returns-in-Done-clause-resting c =
 pub returns-in-Done-clause-keeps : goal.returns-in-Done-clause-keeps
 returns-in-Done-clause-keeps c =
     subst (λ loose. Keeps c.args.region.now.held c.args.values.now.assignment.variables c.args.level (list_at c.args.watches.now.links.lists 1) loose
-        c.args.watches.now.watch.items c.args.values.now.assignment.lits c.args.values.now.levels.items c.args.values.now.reasons.items
-        c.settle_next.new.watches.watch.items c.settle_next.new.values.assignment.lits c.settle_next.new.values.levels.items c.settle_next.new.values.reasons.items)
+    c.args.watches.now.watch.items c.args.values.now.assignment.lits c.args.values.now.levels.items c.args.values.now.reasons.items
+    c.settle_next.new.watches.watch.items c.settle_next.new.values.assignment.lits c.settle_next.new.values.levels.items c.settle_next.new.values.reasons.items)
     (end_loose c.settle_next.new.watches.links.lists c.in-Done.ensures.outcome.0)
     (keeps_then c.loop-conflict.invariant.variables c.loop-conflict.invariant.keeps c.in-Done.ensures.keeps)
 

@@ -38,7 +38,7 @@ returns-then-done-len-clause-settled c =
     all_settled c.args.region.now.held c.settle_loose.new.watches.links.lists c.settle_loose.new.watches.watch.items t
     c.in-None-settle_loose.ensures.resting.watches
     (subst (IsWatched c.args.region.now.held (list_at c.settle_loose.new.watches.links.lists 1) c.settle_loose.new.watches.watch.items t)
-        (take_all c.pass_on.new.done t (omega arith)) watched)
+    (take_all c.pass_on.new.done t (omega arith)) watched)
     c.in-None-settle_loose.ensures.settled
 
 pub loop-number-preserved : goal.loop-number-preserved

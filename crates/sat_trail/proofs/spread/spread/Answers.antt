@@ -14,18 +14,18 @@ turn-requires-clause-from c =
 pub loop-conflict-init : goal.loop-conflict-init
 loop-conflict-init c = record {
   visiting = spread_visiting c.args.region.now.held c.args.values.now.assignment.variables c.args.watches.now.watch.items c.args.values.now.assignment.lits c.args.watches.now.links c.turn.new.self c.args.x c.code.result
-        c.requires.resting c.code.ensures.within_limits c.requires.within c.code.ensures.code c.turn.ensures.size c.turn.ensures.lists;
+      c.requires.resting c.code.ensures.within_limits c.requires.within c.code.ensures.code c.turn.ensures.size c.turn.ensures.lists;
   marks = c.requires.marks;
   variables = refl;
   loose = spread_one c.args.region.now.held c.args.values.now.assignment.variables c.args.watches.now.watch.items c.args.values.now.assignment.lits c.args.watches.now.links c.turn.new.self c.args.x c.code.result
-        c.requires.resting c.code.ensures.within_limits c.requires.within c.code.ensures.code c.turn.ensures.size c.turn.ensures.lists;
+      c.requires.resting c.code.ensures.within_limits c.requires.within c.code.ensures.code c.turn.ensures.size c.turn.ensures.lists;
   is_false = c.requires.is_false;
   keeps = spread_keeps c.args.region.now.held c.args.values.now.assignment.variables c.args.watches.now.watch.items c.args.values.now.assignment.lits c.args.watches.now.links c.turn.new.self c.args.x c.code.result
-        c.requires.resting c.code.ensures.within_limits c.requires.within c.code.ensures.code c.turn.ensures.size c.turn.ensures.lists
+      c.requires.resting c.code.ensures.within_limits c.requires.within c.code.ensures.code c.turn.ensures.size c.turn.ensures.lists
       c.args.level c.args.values.now.levels.items c.args.values.now.reasons.items;
   met = tt;
   answered = spread_answered c.args.region.now.held c.args.values.now.assignment.variables c.args.watches.now.watch.items c.args.values.now.assignment.lits c.args.watches.now.links c.turn.new.self c.args.x c.code.result
-        c.requires.resting c.code.ensures.within_limits c.requires.within c.code.ensures.code c.turn.ensures.size c.turn.ensures.lists;
+      c.requires.resting c.code.ensures.within_limits c.requires.within c.code.ensures.code c.turn.ensures.size c.turn.ensures.lists;
 }
 
 pub returns-in-Done-clause-resting : goal.returns-in-Done-clause-resting

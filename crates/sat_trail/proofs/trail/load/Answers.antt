@@ -22,7 +22,7 @@ loop-k-preserved c =
     let is : lits ≡ get_or cs k [] = sym (get_or_from_slice_get cs k lits [] (ap (slice_get cs) (sym at) ∙ c.clause.ensures.lits)) in
     let words : c.loop-k.region.words ≡ c.args.region.now.words = invariant.words in
     let fits : (c.loop-k.region.words < words_of held + length lits) ⊎ (length held ≤ blocks_of held) → ⊥ =
-        never_full cs blocks k c.args.count c.loop-k.region.words held lits invariant.loading is lt c.requires.blocks c.requires.count (let a = c.requires.words in omega arith) in
+    never_full cs blocks k c.args.count c.loop-k.region.words held lits invariant.loading is lt c.requires.blocks c.requires.count (let a = c.requires.words in omega arith) in
     let next = next_is blocks k c.args.region.now.unused c.loop-k.region.unused c.requires.names in_blocks invariant.names in
     let put = held_of c.put.result c.loop-k.region.unused held c.put.new.self.held lits _ c.put.ensures.name c.put.ensures.put c.put.ensures.full fits in
     record {

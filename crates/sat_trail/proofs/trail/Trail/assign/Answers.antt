@@ -35,7 +35,7 @@ invariant_of-self c =
     let same = c.imply.ensures.variables in
     let long = ap length c.push_reserved.ensures.items ∙ length_push c.self.inside.stages.items (record { len = c.len.result; done = c.self.inside.done }) in (
       assigned_as c.self.inside.values.assignment.variables c.self.inside.originals c.self.inside.region.held c.self.inside.values.assignment.lits c.self.inside.values.levels.items c.self.inside.values.reasons.items
-        c.self.inside.stages.items c.self.inside.done c.self.inside.watches.watch.items c.self.inside.watches.links c.self.invariant.0
+          c.self.inside.stages.items c.self.inside.done c.self.inside.watches.watch.items c.self.inside.watches.links c.self.invariant.0
           c.args.l (subst (λ (a : Assigned). IsFree a.lits c.args.l) (sym c.self.view_is) c.requires.free) (let a = c.requires.within in omega arith)
           (record { len = c.len.result; done = c.self.inside.done }) c.len.ensures.len refl (c.self.inside.present + 1) (omega arith)
           c.imply.new.values.assignment.variables c.imply.new.values.assignment.lits c.imply.new.values.levels.items c.imply.new.values.reasons.items c.push_reserved.new.self.items

@@ -14,8 +14,8 @@ invariant_of-self c =
     let first = ap (λ (a : Assigned). a.originals) c.self.view_is in
     let live = subst (λ (a : Assigned). clause_at a.clauses c.args.c ≢ None) (sym c.self.view_is) c.requires.live in
     let no_reason : (l : Literal) → Has c.self.inside.values.assignment.lits l → get_or c.self.inside.values.reasons.items l.variable 0 ≢ suc n =
-        λ l h e. c.requires.no_reason l (subst (λ (a : Assigned). Has a.lits l) c.self.view_is h)
-        (ap (λ (a : Assigned). get_or a.reasons l.variable 0) (sym c.self.view_is) ∙ e ∙ sym is) in (
+    λ l h e. c.requires.no_reason l (subst (λ (a : Assigned). Has a.lits l) c.self.view_is h)
+    (ap (λ (a : Assigned). get_or a.reasons l.variable 0) (sym c.self.view_is) ∙ e ∙ sym is) in (
       subst (λ w. IsKept c.self.inside.values.assignment.variables c.self.inside.originals c.free.new.self.held c.self.inside.values.assignment.lits c.self.inside.values.levels.items c.self.inside.values.reasons.items
           c.self.inside.stages.items c.self.inside.done w.items c.release.new.self.links) (sym c.release.ensures.watch)
           (kept_forgotten c.self.inside.values.assignment.variables c.self.inside.originals c.self.inside.region.held c.self.inside.values.assignment.lits c.self.inside.values.levels.items c.self.inside.values.reasons.items

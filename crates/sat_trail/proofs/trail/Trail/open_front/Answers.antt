@@ -42,7 +42,7 @@ returns c =
         over = c.in_ok-values.ensures.variables ∙ c.variables-variables.ensures.variables;
         many = sym (length-take-le c.args.count c.args.set.now.clauses c.requires);
         held = loaded_held c.args.set.now.variables c.args.set.now.clauses (length c.in_ok-region.region.held) c.args.count c.load.new.region.held
-          c.load.ensures.loading c.variables-variables.ensures.clauses c.requires c.args.extra_blocks (blocks_is ∙ c.in_ok-blocks.ensures.sum);
+            c.load.ensures.loading c.variables-variables.ensures.clauses c.requires c.args.extra_blocks (blocks_is ∙ c.in_ok-blocks.ensures.sum);
         room = c.load.ensures.words ∙ c.in_ok-region.ensures.words ∙ c.in_ok-words.ensures.sum ∙ ap (λ n. n + c.args.extra_words) c.in_ok-literals_in.ensures;
         none = c.in_ok-values.ensures.empty;
         level = refl;

@@ -7,7 +7,7 @@ use Rattle.sat_trail.proofs.trail.Trail.propagate.Goals as goal
 pub invariant_of-self : goal.invariant_of-self
 invariant_of-self c = (
   kept_propagated c.self.inside.values.assignment.variables c.self.inside.originals c.self.inside.region.held c.self.inside.values.assignment.lits c.self.inside.values.levels.items c.self.inside.values.reasons.items
-          c.self.inside.stages.items c.self.inside.done c.self.inside.watches.watch.items c.self.inside.watches.links c.self.invariant.0
+      c.self.inside.stages.items c.self.inside.done c.self.inside.watches.watch.items c.self.inside.watches.links c.self.invariant.0
       c.propagate.new.values.assignment.variables c.self.inside.present c.propagate.ensures.variables c.self.invariant.2
       c.propagate.new.values.assignment.lits c.propagate.new.values.levels.items c.propagate.new.values.reasons.items c.propagate.new.done c.propagate.new.watches.watch.items c.propagate.new.watches.links
       c.propagate.ensures.passing.resting c.propagate.ensures.passing.passed c.propagate.ensures.passing.watched c.propagate.ensures.keeps,

@@ -11,7 +11,7 @@ use Rattle.search_defs.specs.Ends.{IsSpent}
 -- a clause follows from some clauses
 some_antecedent : (f : ℕ → Lits) (antecedents : List ℕ) (c : Lits) → Resolves (map f antecedents) c → 1 ≤ length antecedents
 some_antecedent f [] c h = absurd h
-some_antecedent f (a ∷ as) c h = omega arith
+some_antecedent f (a ∷ rest) c h = omega arith
 
 module _ (log : LogValue) (trail : Lits) (levels antecedents : List ℕ) (c : Lits) (lesson : IsLesson log trail levels antecedents c) where
   -- a lesson that is over the limit

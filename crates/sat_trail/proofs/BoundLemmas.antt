@@ -1,9 +1,9 @@
 -- Which clauses are bound depends only on which are loose, and not on their order.
-use Rattle.std.proofs.Common.{◌≡◌, ◌≢◌, ◌⊎◌, ◌↔◌, ℕ, ◌+◌, ◌*◌, ◌/◌, ◌<◌, ◌≤◌, List, [], ◌∷◌, ◌++◌, length, set, get_or, take, Option, None, inl, inr, refl, sym, ap, ◌∙◌, subst, arith}
+use Rattle.std.proofs.Common.{◌≡◌, ◌≢◌, ◌⊎◌, ◌↔◌, ℕ, ◌+◌, ◌*◌, ◌/◌, List, length, take, Option, inl, inr, sym, ap, ◌∙◌, subst, arith}
 use Rattle.std.proofs.lemmas.Bool.{cases_eq}
 use Rattle.clause_defs.specs.Literals.{Literal, negation}
 use Rattle.clause_defs.specs.Clauses.{Lits, Has}
-use Rattle.sat_trail.specs.Watching.{lit_at, other, lits_at, IsBound, AreWatches, IsWatched}
+use Rattle.sat_trail.specs.Watching.{lit_at, other, IsBound, IsWatched}
 use Rattle.sat_trail.specs.Stages.{stage_at, AreStages}
 use Rattle.sat_trail.specs.declared.levels.Stage.{Stage}
 use Rattle.sat_trail.proofs.OtherLemmas.{other_half, other_of_odd}

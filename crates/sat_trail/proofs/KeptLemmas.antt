@@ -1,12 +1,10 @@
 -- What a trail keeps gives the readers their answers.
-use Rattle.std.proofs.Common.{◌≡◌, ◌≢◌, ◌⊎◌, ℕ, zero, suc, ◌+◌, ◌<◌, ◌≤◌, List, [], ◌∷◌, ◌++◌, length, set, get_or, take, Option, Some, None, inl, inr, refl, sym, ap, ◌∙◌, subst, arith}
-use Rattle.clause_defs.specs.Literals.{Literal, IsLiteral}
-use Rattle.clause_defs.specs.Clauses.{Lits, Has, IsClause, WithinVariables}
-use Rattle.link_lists.specs.Linked.{Linked, list_at}
-use Rattle.trail_defs.specs.Assignments.{IsAt, IsFree, IsAssignmentOf}
-use Rattle.trail_defs.specs.Trails.{Assigned, clause_at, IsTrail}
+use Rattle.std.proofs.Common.{◌≡◌, ℕ, zero, suc, List, length, Option, Some, arith}
+use Rattle.clause_defs.specs.Clauses.{Lits, IsClause, WithinVariables}
+use Rattle.link_lists.specs.Linked.{Linked}
+use Rattle.trail_defs.specs.Assignments.{IsAssignmentOf}
+use Rattle.trail_defs.specs.Trails.{clause_at, IsTrail}
 use Rattle.sat_trail.specs.Watching.{AreOver}
-use Rattle.sat_trail.specs.Stages.{AreMarked, AreStages}
 use Rattle.sat_trail.specs.Kept.{IsKept}
 use Rattle.sat_trail.specs.declared.levels.Stage.{Stage}
 use Rattle.sat_trail.proofs.TrailLemmas.{has_place, first_of_level, level_0_implied, levels_rise}

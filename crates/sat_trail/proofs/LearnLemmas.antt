@@ -1,11 +1,11 @@
 -- What a trail keeps when a clause comes: it is loose.
-use Rattle.std.proofs.Common.{◌≡◌, ◌≢◌, ◌⊎◌, ◌↔◌, ℕ, zero, suc, ◌+◌, ◌*◌, ◌/◌, ◌<◌, ◌≤◌, List, [], ◌∷◌, length, set, get_or, take, Option, Some, None, inl, inr, refl, sym, ap, ◌∙◌, subst, arith, length-set, get_or-set_same, get_or-set_other}
+use Rattle.std.proofs.Common.{◌≡◌, ◌≢◌, ℕ, zero, suc, ◌*◌, ◌/◌, ◌<◌, ◌≤◌, List, ◌∷◌, length, set, get_or, take, Option, Some, None, inl, inr, sym, ap, ◌∙◌, subst, arith, length-set, get_or-set_same, get_or-set_other}
 use Rattle.std.proofs.lemmas.Bool.{cases_eq}
-use Rattle.clause_defs.specs.Literals.{Literal, negation, code}
+use Rattle.clause_defs.specs.Literals.{Literal, code}
 use Rattle.clause_defs.specs.Clauses.{Lits, Has, IsClause, WithinVariables}
 use Rattle.link_lists.specs.Linked.{Linked, list_at}
-use Rattle.trail_defs.specs.Trails.{clause_at, IsReason}
-use Rattle.sat_trail.specs.Watching.{lit_at, other, lits_in, lits_at, IsBound, IsWatched}
+use Rattle.trail_defs.specs.Trails.{IsReason}
+use Rattle.sat_trail.specs.Watching.{lit_at, lits_in, lits_at, IsBound, IsWatched}
 use Rattle.sat_trail.specs.Kept.{IsKept}
 use Rattle.sat_trail.specs.declared.levels.Stage.{Stage}
 use Rattle.sat_trail.proofs.StageLemmas.{stages_still}

@@ -1,9 +1,9 @@
 -- Levels and reasons when a literal comes, a level is opened, or the trail goes back.
-use Rattle.std.proofs.Common.{◌≡◌, ◌≢◌, ◌⊎◌, ◌↔◌, ℕ, ◌+◌, ◌<◌, ◌≤◌, List, [], ◌∷◌, ◌++◌, length, set, get_or, take, Option, inl, inr, refl, sym, ap, ◌∙◌, subst, arith, length-set, length-take-le, get_or-set_same, get_or-set_other, get_or-take, take-take}
+use Rattle.std.proofs.Common.{◌≡◌, ◌≢◌, ◌↔◌, ℕ, ◌<◌, ◌≤◌, List, [], ◌∷◌, ◌++◌, length, set, get_or, take, Option, inl, inr, sym, ap, ◌∙◌, subst, arith, length-set, length-take-le, get_or-set_same, get_or-set_other, get_or-take, take-take}
 use Rattle.std.proofs.lemmas.Bool.{cases_lt}
 use Rattle.std.proofs.lemmas.List.{length_push, get_or_push, get_or_append_left}
 use Rattle.clause_defs.specs.Literals.{Literal}
-use Rattle.clause_defs.specs.Clauses.{Lits, Has}
+use Rattle.clause_defs.specs.Clauses.{Lits}
 use Rattle.trail_defs.specs.Assignments.{IsAt, IsFree}
 use Rattle.trail_defs.specs.Trails.{IsReason}
 use Rattle.assignment.proofs.ApartLemmas.{free_apart}

@@ -1,6 +1,5 @@
 -- Changes that follow one another.
-use Rattle.std.proofs.Common.{◌≡◌, ◌≢◌, ◌⊎◌, ℕ, ◌+◌, ◌<◌, ◌≤◌, List, [], ◌∷◌, ◌++◌, length, set, get_or, take, Option, inl, inr, refl, sym, ap, ◌∙◌, subst, arith, length-append, append_assoc, append-nil, get_or-set_same, get_or-set_other}
-use Rattle.std.proofs.lemmas.List.{length_push}
+use Rattle.std.proofs.Common.{◌≡◌, ◌≢◌, ℕ, ◌+◌, ◌<◌, ◌≤◌, List, [], ◌∷◌, ◌++◌, length, set, get_or, take, Option, inl, inr, refl, sym, ap, ◌∙◌, subst, arith, length-append, append_assoc, append-nil, get_or-set_same, get_or-set_other}
 use Rattle.clause_defs.specs.Literals.{Literal}
 use Rattle.clause_defs.specs.Clauses.{Lits, Has}
 use Rattle.pch_base.proofs.SetLemmas.{Has-append}
@@ -8,7 +7,7 @@ use Rattle.trail_defs.specs.Assignments.{IsFree}
 use Rattle.trail_defs.specs.Trails.{IsReason}
 use Rattle.assignment.proofs.ApartLemmas.{free_apart}
 use Rattle.sat_trail.specs.Watching.{IsWatched}
-use Rattle.sat_trail.specs.Stages.{stage_at, AreMarked, AreStages, KeepsStages, Grows}
+use Rattle.sat_trail.specs.Stages.{AreMarked, AreStages, KeepsStages, Grows}
 use Rattle.sat_trail.specs.Looks.{AreWithin, Keeps}
 use Rattle.sat_trail.specs.declared.levels.Stage.{Stage}
 use Rattle.sat_trail.proofs.LevelLemmas.{marked_put}

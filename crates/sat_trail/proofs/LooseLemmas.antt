@@ -1,6 +1,6 @@
 -- The beginning and the end of the looks at the loose clauses.
-use Rattle.std.proofs.Common.{◌≡◌, ◌≢◌, ℕ, ◌+◌, ◌*◌, ◌<◌, ◌≤◌, List, [], ◌++◌, length, set, get_or, Option, refl, sym, ap, ◌∙◌, subst, arith, append-nil, length-set, get_or-set_same, get_or-set_other}
-use Rattle.clause_defs.specs.Literals.{Literal, code}
+use Rattle.std.proofs.Common.{◌≡◌, ℕ, ◌+◌, ◌*◌, ◌≤◌, List, [], ◌++◌, length, set, Option, sym, ap, ◌∙◌, subst, arith, append-nil, length-set, get_or-set_same, get_or-set_other}
+use Rattle.clause_defs.specs.Literals.{code}
 use Rattle.clause_defs.specs.Clauses.{Lits, Has}
 use Rattle.link_lists.specs.Linked.{Linked, list_at}
 use Rattle.sat_trail.specs.Watching.{lit_at, IsBound, AreWatches}

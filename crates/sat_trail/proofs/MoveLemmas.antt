@@ -1,5 +1,5 @@
 -- One watch goes to another literal of its clause, or stays.
-use Rattle.std.proofs.Common.{◌≡◌, ◌≢◌, ◌⊎◌, ℕ, ◌+◌, ◌*◌, ◌/◌, ◌<◌, ◌≤◌, List, [], ◌∷◌, ◌++◌, length, set, get_or, take, drop, Option, inl, inr, refl, sym, ap, ◌∙◌, subst, arith, length-set, get_or-set_same, get_or-set_other, take-append-drop}
+use Rattle.std.proofs.Common.{◌≡◌, ◌≢◌, ℕ, ◌/◌, ◌<◌, List, length, set, take, drop, Option, inl, inr, refl, sym, ap, ◌∙◌, subst, length-set, get_or-set_same, get_or-set_other, take-append-drop}
 use Rattle.std.proofs.lemmas.Bool.{cases_eq}
 use Rattle.clause_defs.specs.Literals.{Literal, negation}
 use Rattle.clause_defs.specs.Clauses.{Lits, Has}

@@ -1,10 +1,10 @@
 -- After one more watch was visited.
-use Rattle.std.proofs.Common.{◌≡◌, ◌≢◌, ◌⊎◌, ℕ, zero, suc, ◌+◌, ◌<◌, ◌≤◌, List, [], ◌∷◌, ◌++◌, length, set, get_or, Option, Some, None, IfSome, IfNone, inl, inr, refl, sym, ap, ◌∙◌, subst, arith}
+use Rattle.std.proofs.Common.{◌≡◌, ◌≢◌, ℕ, zero, suc, ◌≤◌, List, [], ◌∷◌, ◌++◌, set, Option, Some, None, IfSome, IfNone, inl, sym, subst, arith}
 use Rattle.clause_defs.specs.Literals.{Literal, negation}
 use Rattle.clause_defs.specs.Clauses.{Lits, Has}
 use Rattle.pch_base.proofs.SetLemmas.{Has-append}
 use Rattle.link_lists.specs.Linked.{Linked, list_at}
-use Rattle.trail_defs.specs.Trails.{clause_at, IsReason}
+use Rattle.trail_defs.specs.Trails.{IsReason}
 use Rattle.sat_trail.specs.Watching.{AreOver, HasSizes, AreWatches, AreVisited}
 use Rattle.sat_trail.specs.Stages.{Grows}
 use Rattle.sat_trail.specs.Visits.{IsInConflict, IsVisit}

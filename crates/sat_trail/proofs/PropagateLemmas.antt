@@ -1,5 +1,5 @@
 -- What a trail keeps when literals were implied.
-use Rattle.std.proofs.Common.{◌≡◌, ℕ, zero, suc, ◌<◌, ◌≤◌, List, length, get_or, take, Option, Some, None, sym, ap, ◌∙◌, subst, arith}
+use Rattle.std.proofs.Common.{◌≡◌, ℕ, zero, suc, ◌≤◌, List, length, get_or, take, Option, Some, None, sym, subst, arith}
 use Rattle.clause_defs.specs.Clauses.{Lits}
 use Rattle.link_lists.specs.Linked.{Linked, list_at}
 use Rattle.trail_defs.specs.Assignments.{IsSettled}

@@ -1,5 +1,5 @@
 -- While a region is loaded each clause fits, and gets the next name.
-use Rattle.std.proofs.Common.{◌≡◌, ◌⊎◌, ℕ, ◌+◌, ◌-◌, ◌<◌, ◌≤◌, List, [], length, set, get_or, take, sum_by, Option, Some, Result, Ok, Err, IfOk, IfErr, inl, inr, sym, ap, ◌∙◌, arith, length-take-le, get_or-take, take-take}
+use Rattle.std.proofs.Common.{◌≡◌, ◌⊎◌, ℕ, ◌+◌, ◌-◌, ◌<◌, ◌≤◌, List, [], length, set, get_or, take, sum_by, Option, Some, Result, Ok, Err, IfOk, IfErr, inl, inr, ap, ◌∙◌, arith, length-take-le, get_or-take, take-take}
 use Rattle.std.proofs.lemmas.List.Sums.{sum_by_more_le}
 use Rattle.clause_defs.specs.Clauses.{Lits}
 use Rattle.pch_region.specs.Blocks.{next_name, AreAllNames, words_of, blocks_of}

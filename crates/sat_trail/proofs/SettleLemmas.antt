@@ -1,12 +1,12 @@
 -- One loose clause is looked at: it is taken from list 0, and stays loose or is bound.
-use Rattle.std.proofs.Common.{◌≡◌, ◌≢◌, ◌⊎◌, ◌↔◌, ℕ, ◌+◌, ◌*◌, ◌/◌, ◌<◌, ◌≤◌, List, [], ◌∷◌, ◌++◌, length, set, get_or, take, Option, Some, None, inl, inr, refl, sym, ap, ◌∙◌, subst, arith, length-set, get_or-set_same, get_or-set_other}
+use Rattle.std.proofs.Common.{◌≡◌, ◌≢◌, ◌⊎◌, ◌↔◌, ℕ, ◌+◌, ◌*◌, ◌/◌, ◌<◌, ◌≤◌, List, [], ◌∷◌, ◌++◌, length, set, get_or, take, Option, None, inl, inr, refl, sym, ap, ◌∙◌, subst, arith, length-set, get_or-set_same, get_or-set_other}
 use Rattle.std.proofs.lemmas.Bool.{cases_eq}
-use Rattle.clause_defs.specs.Literals.{Literal, negation, code}
+use Rattle.clause_defs.specs.Literals.{Literal, code}
 use Rattle.clause_defs.specs.Clauses.{Lits, Has}
 use Rattle.pch_base.proofs.SetLemmas.{Has-append}
 use Rattle.link_lists.specs.Linked.{Linked, list_at}
 use Rattle.trail_defs.specs.Assignments.{IsSatisfied}
-use Rattle.sat_trail.specs.Watching.{no_literal, lit_at, other, lits_at, IsBound, AreWatches}
+use Rattle.sat_trail.specs.Watching.{no_literal, lit_at, other, lits_at, IsBound}
 use Rattle.sat_trail.specs.Looks.{Keeps}
 use Rattle.sat_trail.specs.Loosening.{loose_in, IsSettling, AreSettledIn, AreBound}
 use Rattle.sat_trail.proofs.OtherLemmas.{other_half, other_of_even, other_of_odd}

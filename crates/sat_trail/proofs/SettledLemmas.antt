@@ -1,10 +1,10 @@
 -- What is settled when all literals were passed on.
-use Rattle.std.proofs.Common.{◌≡◌, ◌≢◌, ◌⊎◌, ℕ, ◌*◌, ◌/◌, List, [], ◌∷◌, get_or, Option, Some, None, inl, inr, sym, ap, ◌∙◌, subst, arith}
+use Rattle.std.proofs.Common.{◌≡◌, ◌⊎◌, ℕ, ◌*◌, ◌/◌, List, [], ◌∷◌, get_or, Option, Some, None, inl, inr, sym, ap, ◌∙◌, subst, arith}
 use Rattle.std.proofs.lemmas.Bool.{cases_eq}
-use Rattle.clause_defs.specs.Literals.{Literal, negation, code}
+use Rattle.clause_defs.specs.Literals.{Literal, code}
 use Rattle.clause_defs.specs.Clauses.{Lits, Has}
 use Rattle.pch_base.specs.LitCodes.{code_injective}
-use Rattle.trail_defs.specs.Assignments.{IsFree, IsSettled}
+use Rattle.trail_defs.specs.Assignments.{IsSettled}
 use Rattle.link_lists.specs.Linked.{list_at}
 use Rattle.sat_trail.specs.Loosening.{AreSettledIn}
 use Rattle.sat_trail.specs.Watching.{lit_at, other, lits_in, lits_at, IsBound, AreWatches, IsWatched}

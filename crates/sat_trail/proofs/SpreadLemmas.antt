@@ -1,9 +1,9 @@
 -- The beginning and the end of the visits of a literal's watches.
-use Rattle.std.proofs.Common.{◌≡◌, ℕ, ◌+◌, ◌*◌, ◌<◌, ◌≤◌, List, [], length, set, Option, refl, sym, ap, ◌∙◌, subst, arith, length-set}
+use Rattle.std.proofs.Common.{◌≡◌, ℕ, ◌<◌, ◌≤◌, List, [], length, set, Option, sym, ap, ◌∙◌, subst, arith, length-set}
 use Rattle.clause_defs.specs.Literals.{Literal, code, IsLiteral}
-use Rattle.clause_defs.specs.Clauses.{Lits, Has}
+use Rattle.clause_defs.specs.Clauses.{Lits}
 use Rattle.link_lists.specs.Linked.{Linked, list_at}
-use Rattle.sat_trail.specs.Watching.{lit_at, IsBound, HasSizes, AreWatches, AreListed, AreVisited, AreAnswered}
+use Rattle.sat_trail.specs.Watching.{lit_at, IsBound, AreWatches, AreVisited, AreAnswered}
 use Rattle.sat_trail.specs.Looks.{IsVisiting, IsResting, Keeps}
 use Rattle.sat_trail.proofs.TurnLemmas.{turned_visited, turned_answered, turned_one, visited_end}
 use Rattle.sat_trail.proofs.VisitCases.{code_high}

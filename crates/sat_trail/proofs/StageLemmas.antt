@@ -1,5 +1,5 @@
 -- What is watched when a literal comes, a level is opened, or the trail goes back.
-use Rattle.std.proofs.Common.{◌≡◌, ◌≢◌, ◌⊎◌, ℕ, ◌+◌, ◌<◌, ◌≤◌, not, Bool, true, false, List, [], ◌∷◌, ◌++◌, length, get_or, take, Option, inl, inr, refl, sym, ap, ◌∙◌, subst, subst₂, arith, length-take-le, get_or-take, take-take, take_all}
+use Rattle.std.proofs.Common.{◌≡◌, ℕ, ◌+◌, ◌<◌, ◌≤◌, not, Bool, true, false, List, [], ◌∷◌, ◌++◌, length, take, Option, inl, inr, refl, sym, ap, ◌∙◌, subst, subst₂, arith, length-take-le, get_or-take, take-take, take_all}
 use Rattle.std.proofs.lemmas.Bool.{cases_lt}
 use Rattle.std.proofs.lemmas.List.{length_push, get_or_push, get_or_append_left}
 use Rattle.clause_defs.specs.Literals.{Literal, negation, code}
@@ -7,7 +7,7 @@ use Rattle.clause_defs.specs.Clauses.{Lits, Has}
 use Rattle.pch_base.proofs.SetLemmas.{Has-append, Has-take_next}
 use Rattle.link_lists.specs.Linked.{list_at}
 use Rattle.trail_defs.specs.Assignments.{IsAt}
-use Rattle.sat_trail.specs.Watching.{lit_at, other, IsBound, IsWatched, AreListed, AreAnswered}
+use Rattle.sat_trail.specs.Watching.{lit_at, other, IsWatched, AreListed, AreAnswered}
 use Rattle.sat_trail.specs.Stages.{first_stage, stage_at, IsStage, IsWatchedAt, AreStages, KeepsStages}
 use Rattle.sat_trail.specs.declared.levels.Stage.{Stage}
 use Rattle.sat_trail.proofs.PlaceLemmas.{take_grown, take_before_new}

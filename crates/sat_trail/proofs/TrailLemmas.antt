@@ -1,11 +1,11 @@
 -- What is kept of levels and reasons gives a trail.
-use Rattle.std.proofs.Common.{◌≡◌, ◌≢◌, ◌⊎◌, ℕ, zero, suc, ◌+◌, ◌-◌, ◌<◌, ◌≤◌, List, length, get_or, take, Option, inl, inr, sym, arith}
+use Rattle.std.proofs.Common.{◌≡◌, ◌≢◌, ℕ, zero, suc, ◌-◌, ◌<◌, ◌≤◌, List, length, get_or, take, Option, inl, inr, sym, arith}
 use Rattle.std.proofs.Math.Nat.{eq-zero-or-pos}
 use Rattle.std.proofs.lemmas.Bool.{cases_lt}
 use Rattle.clause_defs.specs.Literals.{Literal}
 use Rattle.clause_defs.specs.Clauses.{Lits, Has}
 use Rattle.pch_base.proofs.SetLemmas.{Has-Contains}
-use Rattle.trail_defs.specs.Assignments.{IsAt, IsAssignmentOf}
+use Rattle.trail_defs.specs.Assignments.{IsAt}
 use Rattle.sat_trail.specs.Watching.{IsWatched}
 use Rattle.sat_trail.specs.Stages.{stage_at, AreMarked, AreStages}
 use Rattle.sat_trail.specs.declared.levels.Stage.{Stage}

@@ -1,11 +1,11 @@
 -- The watches of a literal are turned into list 0, and at the end none is left there.
-use Rattle.std.proofs.Common.{◌≡◌, ◌≢◌, ◌⊎◌, ◌↔◌, ℕ, ◌+◌, ◌*◌, ◌<◌, ◌≤◌, List, [], ◌∷◌, length, set, get_or, Option, inl, inr, refl, sym, ap, ◌∙◌, subst, arith, length-set, get_or-set_same, get_or-set_other}
+use Rattle.std.proofs.Common.{◌≡◌, ◌≢◌, ℕ, ◌<◌, ◌≤◌, List, [], length, set, Option, inl, inr, sym, ap, ◌∙◌, subst, arith, length-set, get_or-set_same, get_or-set_other}
 use Rattle.std.proofs.lemmas.Bool.{cases_eq}
 use Rattle.clause_defs.specs.Literals.{Literal, code}
 use Rattle.clause_defs.specs.Clauses.{Lits, Has}
 use Rattle.pch_base.specs.LitCodes.{code_injective}
 use Rattle.link_lists.specs.Linked.{list_at}
-use Rattle.sat_trail.specs.Watching.{lit_at, other, IsBound, AreListed, AreVisited, AreAnswered}
+use Rattle.sat_trail.specs.Watching.{lit_at, IsBound, AreListed, AreVisited, AreAnswered}
 
 module _ (clauses : List (Option Lits)) (loose : List ℕ) (watch t : Lits) (lists turned : List (List ℕ)) (x : Literal)
     (listed : AreListed clauses loose watch lists) (high : 2 ≤ code x) (inside : code x < length lists)

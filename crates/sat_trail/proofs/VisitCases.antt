@@ -1,20 +1,18 @@
 -- The three ways of a visit: the other watch is true, the watch moves, or no other literal is open.
-use Rattle.std.proofs.Common.{◌≡◌, ◌≢◌, ◌⊎◌, ℕ, suc, ◌+◌, ◌*◌, ◌/◌, ◌<◌, ◌≤◌, List, [], ◌∷◌, length, set, get_or, Option, Some, None, inl, inr, refl, sym, ap, ◌∙◌, subst, arith, add-one, length-set, get_or-set_same, get_or-set_other}
+use Rattle.std.proofs.Common.{◌≡◌, ◌≢◌, ℕ, ◌+◌, ◌/◌, ◌<◌, ◌≤◌, List, [], ◌∷◌, length, set, get_or, Option, Some, None, inl, inr, refl, sym, ap, ◌∙◌, subst, arith, add-one, get_or-set_other}
 use Rattle.std.proofs.lemmas.Bool.{cases_eq}
-use Rattle.clause_defs.specs.Literals.{Literal, negation, code, IsLiteral}
+use Rattle.clause_defs.specs.Literals.{Literal, negation, code}
 use Rattle.clause_defs.specs.Clauses.{Lits, Has}
 use Rattle.pch_base.specs.LitCodes.{code_injective}
 use Rattle.link_lists.specs.Linked.{Linked, list_at}
-use Rattle.trail_defs.specs.Assignments.{IsFree, IsConflict, Implies}
-use Rattle.trail_defs.specs.Trails.{clause_at, IsReason}
-use Rattle.sat_trail.specs.Watching.{lit_at, other, lits_in, lits_at, IsBound, AreOver, AreWatches, AreVisited, AreAnswered}
-use Rattle.sat_trail.specs.Stages.{KeepsStages}
-use Rattle.sat_trail.specs.Visits.{IsInConflict, IsVisit}
+use Rattle.trail_defs.specs.Trails.{clause_at}
+use Rattle.sat_trail.specs.Watching.{lit_at, other, lits_in, lits_at, IsBound, AreOver, AreVisited, AreAnswered}
+use Rattle.sat_trail.specs.Visits.{IsVisit}
 use Rattle.sat_trail.specs.Looks.{IsVisiting}
 use Rattle.sat_trail.specs.declared.visit.Step.TheVariants.{Answered, Forces, Conflict}
 use Rattle.sat_trail.proofs.OtherLemmas.{other_half, bound_other}
 use Rattle.sat_trail.proofs.MoveLemmas.{moved_set, moved_same, moved_watches, moved_stages}
-use Rattle.sat_trail.proofs.VisitLemmas.{in_hand, visited_on, answered_on, one_same}
+use Rattle.sat_trail.proofs.VisitLemmas.{visited_on, answered_on, one_same}
 
 -- the clause of number b + 1 is the one at place b
 pub clause_behind : (clauses : List (Option Lits)) (b : ℕ) → clause_at clauses (b + 1) ≡ get_or clauses b None

@@ -1,13 +1,13 @@
 -- One watch of a literal that became false is visited: it is taken from list 0 and put into the list of its
 -- literal, which may be another one then.
-use Rattle.std.proofs.Common.{◌≡◌, ◌≢◌, ◌⊎◌, ◌↔◌, ℕ, ◌+◌, ◌*◌, ◌/◌, ◌<◌, ◌≤◌, List, [], ◌∷◌, length, set, get_or, Option, inl, inr, refl, sym, ap, ◌∙◌, subst, arith, length-set, get_or-set_same, get_or-set_other}
+use Rattle.std.proofs.Common.{◌≡◌, ◌≢◌, ◌⊎◌, ℕ, ◌<◌, ◌≤◌, List, [], ◌∷◌, length, set, Option, inl, inr, refl, sym, ap, ◌∙◌, subst, arith, get_or-set_same, get_or-set_other}
 use Rattle.std.proofs.lemmas.Bool.{cases_eq}
-use Rattle.clause_defs.specs.Literals.{Literal, negation, code}
+use Rattle.clause_defs.specs.Literals.{Literal, code}
 use Rattle.clause_defs.specs.Clauses.{Lits, Has}
 use Rattle.pch_base.specs.LitCodes.{code_injective}
 use Rattle.link_lists.specs.Linked.{list_at}
-use Rattle.sat_trail.specs.Watching.{lit_at, other, lits_at, IsBound, AreWatches, AreVisited, AreAnswered}
-use Rattle.sat_trail.proofs.OtherLemmas.{other_other, other_ne, bound_other}
+use Rattle.sat_trail.specs.Watching.{lit_at, other, IsBound, AreWatches, AreVisited, AreAnswered}
+use Rattle.sat_trail.proofs.OtherLemmas.{other_ne}
 use Rattle.sat_trail.proofs.MoveLemmas.{IsMoved}
 
 module _ (clauses : List (Option Lits)) (loose : List ℕ) (watch later : Lits) (x m : Literal)

@@ -1,13 +1,13 @@
 -- What a visit reads: literals of its clause, all over the variables.
-use Rattle.std.proofs.Common.{◌≡◌, ◌≢◌, ◌⊎◌, ℕ, ◌+◌, ◌*◌, ◌/◌, ◌<◌, ◌≤◌, Bool, true, false, not, true≢false, if◌then◌else◌, List, [], ◌∷◌, length, set, get_or, Option, Some, None, inl, inr, refl, sym, ap, ◌∙◌, subst, arith, length-set}
+use Rattle.std.proofs.Common.{◌≡◌, ℕ, ◌+◌, ◌*◌, ◌/◌, ◌<◌, ◌≤◌, Bool, true, false, not, true≢false, if◌then◌else◌, List, [], ◌∷◌, length, set, get_or, Option, Some, None, inl, inr, refl, sym, ap, ◌∙◌, subst, arith, length-set}
 use Rattle.std.proofs.lemmas.List.{get_or_read}
 use Rattle.clause_defs.specs.Literals.{Literal, negation, code}
 use Rattle.clause_defs.specs.Clauses.{Lits, Has}
 use Rattle.link_lists.specs.Linked.{Linked, list_at}
 use Rattle.trail_defs.specs.Assignments.{AreApart, IsAssignmentOf}
-use Rattle.sat_trail.specs.Watching.{no_literal, lit_at, other, lits_in, lits_at, IsBound, AreOver, HasSizes, AreWatches}
+use Rattle.sat_trail.specs.Watching.{no_literal, lit_at, other, lits_in, lits_at, IsBound, AreOver}
 use Rattle.sat_trail.specs.Looks.{IsVisiting}
-use Rattle.sat_trail.proofs.OtherLemmas.{other_half, other_inside, bound_other}
+use Rattle.sat_trail.proofs.OtherLemmas.{other_inside, bound_other}
 
 -- no truth is its opposite
 pub not_same : (b : Bool) → b ≡ not b → ⊥

@@ -1,5 +1,5 @@
 -- What a trail keeps.
-use Rattle.std.specs.Prelude.{◌≡◌, ◌≢◌, ℕ, ◌<◌, ◌≤◌, List, length, get_or, Option, None}
+use Rattle.std.specs.Prelude.{◌≢◌, ℕ, ◌<◌, List, get_or, Option, None}
 use Rattle.clause_defs.specs.Clauses.{Lits}
 use Rattle.link_lists.specs.Linked.{Linked, list_at}
 use Rattle.sat_trail.specs.Watching.{AreOver, HasSizes, AreWatches, AreListed}

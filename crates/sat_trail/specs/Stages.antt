@@ -1,8 +1,8 @@
 -- Levels: how far the trail was when each was opened.
-use Rattle.std.specs.Prelude.{◌≡◌, ◌≢◌, ℕ, ◌+◌, ◌<◌, ◌≤◌, ◌↔◌, ◌++◌, List, length, get_or, take, Option, Some}
+use Rattle.std.specs.Prelude.{◌≡◌, ◌≢◌, ℕ, ◌+◌, ◌<◌, ◌≤◌, ◌↔◌, ◌++◌, List, length, get_or, take, Option}
 use Rattle.clause_defs.specs.Literals.{Literal}
 use Rattle.clause_defs.specs.Clauses.{Lits, Has}
-use Rattle.trail_defs.specs.Assignments.{IsAt, Implies}
+use Rattle.trail_defs.specs.Assignments.{IsAt}
 use Rattle.trail_defs.specs.Trails.{IsReason}
 use Rattle.sat_trail.specs.Watching.{IsWatched}
 use Rattle.sat_trail.specs.declared.levels.Stage.{Stage}

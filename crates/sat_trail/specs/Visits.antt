@@ -1,6 +1,6 @@
 -- What the visit of one watch leaves.
-use Rattle.std.specs.Prelude.{◌≡◌, ◌≢◌, ℕ, ◌<◌, List, length, get_or, Option, Some}
-use Rattle.clause_defs.specs.Literals.{Literal, negation}
+use Rattle.std.specs.Prelude.{◌≡◌, ℕ, ◌<◌, List, length, Option, Some}
+use Rattle.clause_defs.specs.Literals.{Literal}
 use Rattle.clause_defs.specs.Clauses.{Lits, Has}
 use Rattle.link_lists.specs.Linked.{list_at}
 use Rattle.trail_defs.specs.Assignments.{IsFree, IsConflict}

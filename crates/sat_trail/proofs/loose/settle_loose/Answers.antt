@@ -1,4 +1,4 @@
-use Rattle.std.proofs.Common.{refl, sym, ◌∙◌, subst}
+use Rattle.std.proofs.Common.{refl, ◌∙◌, subst}
 use Rattle.link_lists.specs.Linked.{list_at}
 use Rattle.sat_trail.specs.Looks.{Keeps}
 use Rattle.sat_trail.proofs.NextLemmas.{conflicts_more, keeps_then, keeps_has, none_on}

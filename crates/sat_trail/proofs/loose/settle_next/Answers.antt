@@ -1,8 +1,6 @@
-use Rattle.std.proofs.Common.{◌≡◌, ◌≢◌, ◌<◌, ◌≤◌, ◌+◌, ◌*◌, ◌/◌, length, get_or, Some, None, refl, sym, ap, ◌∙◌, subst, arith}
-use Rattle.clause_defs.specs.Literals.{Literal, negation}
+use Rattle.std.proofs.Common.{◌≡◌, ◌+◌, ◌/◌, length, get_or, Some, None, refl, sym, ap, ◌∙◌, subst, arith}
 use Rattle.clause_defs.specs.Clauses.{Has}
 use Rattle.trail_defs.specs.Trails.{clause_at, IsReason}
-use Rattle.sat_trail.specs.Looks.{Keeps}
 use Rattle.sat_trail.specs.Loosening.{loose_in, IsSettling}
 use Rattle.sat_trail.proofs.VisitCases.{clause_behind}
 use Rattle.sat_trail.proofs.VisitSteps.{clause_is, lit_within, code_listed}

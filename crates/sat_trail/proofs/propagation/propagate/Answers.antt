@@ -1,4 +1,4 @@
-use Rattle.std.proofs.Common.{◌≡◌, ◌≤◌, length, take, sym, ◌∙◌, subst, arith, take_all}
+use Rattle.std.proofs.Common.{◌∙◌, subst, arith, take_all}
 use Rattle.sat_trail.specs.Watching.{IsWatched}
 use Rattle.link_lists.specs.Linked.{list_at}
 use Rattle.sat_trail.proofs.NextLemmas.{keeps_then}

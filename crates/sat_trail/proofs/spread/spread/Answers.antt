@@ -1,5 +1,5 @@
-use Rattle.std.proofs.Common.{◌≡◌, ◌<◌, length, refl, sym, ◌∙◌, subst}
-use Rattle.clause_defs.specs.Literals.{negation, code}
+use Rattle.std.proofs.Common.{◌<◌, length, refl, sym, ◌∙◌, subst}
+use Rattle.clause_defs.specs.Literals.{negation}
 use Rattle.sat_trail.proofs.VisitSteps.{code_listed}
 use Rattle.sat_trail.proofs.NextLemmas.{conflicts_more, keeps_then, keeps_has, none_on}
 use Rattle.sat_trail.proofs.SpreadLemmas.{spread_one, spread_visiting, spread_answered, spread_keeps, spread_resting}

@@ -1,5 +1,4 @@
-use Rattle.std.proofs.Common.{◌≡◌, ◌≤◌, ◌∷◌, ◌++◌, [], inl, inr, refl, sym, ap, subst, arith}
-use Rattle.clause_defs.specs.Literals.{Literal}
+use Rattle.std.proofs.Common.{◌∷◌, [], inl, inr, refl, sym, subst}
 use Rattle.clause_defs.specs.Clauses.{Has}
 use Rattle.pch_base.proofs.SetLemmas.{Has-append}
 use Rattle.link_lists.specs.Linked.{list_at}

@@ -1,6 +1,6 @@
-use Rattle.std.proofs.Common.{◌≡◌, ◌≢◌, ◌<◌, ◌≤◌, ◌+◌, ◌/◌, true≢false, length, set, refl, sym, ap, ◌∙◌, subst, arith}
-use Rattle.clause_defs.specs.Literals.{Literal, negation, code}
-use Rattle.clause_defs.specs.Clauses.{Lits, Has}
+use Rattle.std.proofs.Common.{◌≢◌, ◌<◌, ◌≤◌, ◌+◌, ◌/◌, true≢false, length, refl, sym, ap, ◌∙◌, subst, arith}
+use Rattle.clause_defs.specs.Literals.{Literal, negation}
+use Rattle.clause_defs.specs.Clauses.{Has}
 use Rattle.sat_trail.specs.Watching.{lit_at, other, lits_at}
 use Rattle.sat_trail.specs.Visits.{IsVisit}
 use Rattle.sat_trail.specs.declared.visit.Step.{Step}

@@ -1,4 +1,4 @@
-use Rattle.std.proofs.Common.{◌≡◌, ◌*◌, ap, subst, sym}
+use Rattle.std.proofs.Common.{◌*◌, ap, subst, sym}
 use Rattle.clause_defs.specs.Clauses.{WithinVariables}
 use Rattle.trail_defs.specs.Trails.{Assigned}
 use Rattle.sat_trail.proofs.LearnLemmas.{kept_learned}

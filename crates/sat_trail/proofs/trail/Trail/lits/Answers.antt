@@ -1,4 +1,4 @@
-use Rattle.std.proofs.Common.{◌≤◌, ap, arith}
+use Rattle.std.proofs.Common.{ap, arith}
 use Rattle.trail_defs.specs.Trails.{Assigned}
 use Rattle.sat_trail.proofs.trail.Trail.lits.Goals as goal
 

@@ -1,4 +1,4 @@
-use Rattle.std.proofs.Common.{◌≡◌, ◌≤◌, ap, ◌∙◌, arith}
+use Rattle.std.proofs.Common.{ap, ◌∙◌, arith}
 use Rattle.trail_defs.specs.Trails.{Assigned, clause_at}
 use Rattle.sat_trail.proofs.NextLemmas.{none_on}
 use Rattle.sat_trail.proofs.PropagateLemmas.{kept_propagated, numbers_settled}

@@ -1,9 +1,10 @@
 ghost use Rattle.std.specs.Prelude.{◌≡◌, ℕ, ◌+◌, ◌<◌, ◌≤◌, [], length, get_or, Some, IfOk, IfSome, IfNone};
 ghost use Rattle.clause_defs.specs.Clauses.{Lits, Has};
 ghost use Rattle.clause_defs.specs.declared.verdict.TheConstants.{MAX_INDEX};
-ghost use Rattle.log_defs.specs.Logs.{Words, Extends, IsIndexOf, clause_of_log};
-ghost use Rattle.trail_defs.specs.Assignments.{IsConflict};
+ghost use Rattle.log_defs.specs.Logs.{LogValue, Words, Extends, IsIndexOf, clause_of_log};
+ghost use Rattle.trail_defs.specs.Assignments.{IsConflict, IsSatisfied};
 ghost use Rattle.trail_defs.specs.Trails.{clause_at};
+ghost use Rattle.settled_levels.specs.Levels.{IsSettledBelow};
 ghost use Rattle.search_defs.specs.Solving.{IsSolving};
 ghost use Rattle.search_defs.specs.Ends.{SolveEnds, IsTotal};
 
@@ -40,7 +41,8 @@ const LEAST_WORDS: u32 = 4;
 
 impl Model for Solver {
     ghost use Rattle.std.specs.Prelude.{◌≡◌, ◌+◌};
-    ghost use Rattle.search_defs.specs.Solving.{Solving};
+    ghost use Rattle.settled_levels.specs.Levels.{IsSettledBelow};
+ghost use Rattle.search_defs.specs.Solving.{Solving};
 
     ghost Value = { Solving };
 
@@ -79,12 +81,11 @@ impl Solver {
         ensures end { SolveEnds log.new self.new result }
         ensures same_limit { self.new.limit ≡ self.old.limit }
     {
-        while let Some(number) = descend(&mut self.trail, &self.order, self.lesson.variables()) {
+        while let Some(number) = self.descend() {
             match self.learn_from(number, log) {
                 Some(end) => return end,
-                None => {}
+                None => self.restart_if_due(),
             }
-            self.restart_if_due();
         }
         CdclEnd::Point
     }
@@ -102,8 +103,26 @@ impl Solver {
         }
     }
 
+    // Decides variables and draws the consequences, until a clause is in conflict, whose number it answers,
+    // or each variable has a value.
+    fn descend(&mut self) -> Option<u32>
+        requires settled { IsSettledBelow self.old.trail }
+        ensures solving { (log : LogValue) → IsSolving log self.old → IsSolving log self.new }
+        ensures same_limit { self.new.limit ≡ self.old.limit }
+        ensures conflict { IfSome result (λ k. (c : Lits)
+            × (clause_at self.new.trail.clauses k ≡ Some c) × IsConflict self.new.trail.lits c) }
+        ensures total { IfNone result (IsTotal self.new.trail) }
+        ensures satisfied { IfNone result ((k : ℕ) (c : Lits)
+            → clause_at self.new.trail.clauses k ≡ Some c → IsSatisfied self.new.trail.lits c) }
+    {
+        descend(&mut self.trail, &self.order, self.lesson.variables())
+    }
+
     // Goes back to level 0 after so many conflicts.
-    fn restart_if_due(&mut self) {
+    fn restart_if_due(&mut self)
+        ensures solving { (log : LogValue) → IsSolving log self.old → IsSolving log self.new }
+        ensures same_limit { self.new.limit ≡ self.old.limit }
+    {
         if self.restarts.is_due() {
             back_to(&mut self.trail, &mut self.order, 0);
         }

@@ -11,7 +11,7 @@ use Rattle.search_defs.specs.Solving.{Solving, IsSolving}
 use Rattle.search_defs.specs.Ends.{IsTotal, IsPoint}
 
 -- no literal is free
-none_free : (t : Assigned) → IsTotal t → (l : Literal) → 1 ≤ l.variable → l.variable ≤ t.variables → IsFree t.lits l → ⊥
+pub none_free : (t : Assigned) → IsTotal t → (l : Literal) → 1 ≤ l.variable → l.variable ≤ t.variables → IsFree t.lits l → ⊥
 none_free t total l low high free =
     let some = total l.variable low high in
     elim (same_variable some.0 l some.2) [

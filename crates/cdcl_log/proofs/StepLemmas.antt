@@ -1,5 +1,6 @@
 -- What the search keeps after a conflict.
 use Rattle.std.proofs.Common.{◌≡◌, ℕ, suc, ◌+◌, ◌<◌, ◌≤◌, List, [], ◌∷◌, ◌++◌, length, set, get_or, sum_by, Option, Some, None, refl, sym, ap, ◌∙◌, subst, arith, length-append}
+use Rattle.std.proofs.lemmas.List.{get_or_read}
 use Rattle.clause_defs.specs.Literals.{Literal}
 use Rattle.clause_defs.specs.Clauses.{Lits, Has, SameSet}
 use Rattle.clause_laws.proofs.ClauseLemmas.{same_refl}
@@ -16,7 +17,7 @@ use Rattle.search_defs.specs.Solving.{Solving, Knows, IsSolving, HasLearned}
 use Rattle.search_defs.specs.Ends.{IsRefuted}
 use Rattle.search_defs.proofs.LearnLemmas.{new_clause, solving_learned, solving_moved}
 use Rattle.search_defs.proofs.LessonLemmas.{conflict_present, taught_of}
-use Rattle.search_defs.proofs.ReasonLemmas.{trail_reasoned}
+use Rattle.search_defs.proofs.ReasonLemmas.{number_within, trail_reasoned}
 use Rattle.conflict_lesson.proofs.SpentLemmas.{words_taken}
 use Rattle.cdcl_log.specs.Steps.{IsPut}
 
@@ -94,20 +95,29 @@ reasoned_with log t is known knows present lits levels reasons indices p l v r i
     (subst (λ (ns : List ℕ). IsReasoned log t.present t.lits t.levels ns indices) (sym r)
     (subst (λ (ns : List ℕ). IsReasoned log t.present t.lits t.levels t.reasons ns) (sym i) reasoned))))
 
+-- the index at the number of a live clause, however it was read
+index_read : (log : LogValue) (s : Solving) → IsSolving log s → (k index : ℕ) (c : Lits) → clause_at s.trail.clauses k ≡ Some c
+    → index ≡ get_or s.indices k index → index ≡ get_or s.indices k 0
+index_read log s solving k index c live read =
+    let high = (number_within s.trail.clauses k c live).1 in
+    let size = solving.knows.size in get_or_read s.indices k index (omega arith) read 0
+
 -- the clause in conflict is one of the log
 pub conflict_known : (log : LogValue) (s : Solving) → IsSolving log s → (k index : ℕ) (c : Lits) → clause_at s.trail.clauses k ≡ Some c → IsConflict s.trail.lits c
-    → index ≡ get_or s.indices k 0 → IsIndexOf log index × IsConflict s.trail.lits (clause_of_log log index)
-conflict_known log s solving k index c live all_false is =
-    let own = solving.knows.known k c live in (
+    → index ≡ get_or s.indices k index → IsIndexOf log index × IsConflict s.trail.lits (clause_of_log log index)
+conflict_known log s solving k index c live all_false read =
+    let own = solving.knows.known k c live in
+    let is = index_read log s solving k index c live read in (
       subst (IsIndexOf log) (sym is) own.0,
       subst (IsConflict s.trail.lits) (sym (ap (λ i. clause_of_log log i) is ∙ own.1)) all_false,
     )
 
 -- it has a literal of the present level
 pub present_known : (log : LogValue) (s : Solving) → IsSolving log s → IsTrail s.trail → 1 ≤ s.trail.present → (k index : ℕ) (c : Lits)
-    → clause_at s.trail.clauses k ≡ Some c → IsConflict s.trail.lits c → index ≡ get_or s.indices k 0
+    → clause_at s.trail.clauses k ≡ Some c → IsConflict s.trail.lits c → index ≡ get_or s.indices k index
     → (x : Literal) × Has (clause_of_log log index) x × (level_of s.trail x ≡ s.trail.present)
-present_known log s solving known high k index c live all_false is =
+present_known log s solving known high k index c live all_false read =
+    let is = index_read log s solving k index c live read in
     let own = solving.knows.known k c live in
     let some = conflict_present s.trail known solving.settled high k c live all_false in
     (some.0, subst (λ (d : Lits). Has d some.0) (sym (ap (λ i. clause_of_log log i) is ∙ own.1)) some.1, some.2)

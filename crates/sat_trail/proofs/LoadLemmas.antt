@@ -1,5 +1,5 @@
 -- One more clause is put into a region, and at the end the trail is kept.
-use Rattle.std.proofs.Common.{◌≡◌, ◌≢◌, ◌⊎◌, ◌↔◌, ℕ, zero, suc, ◌+◌, ◌-◌, ◌*◌, ◌/◌, ◌<◌, ◌≤◌, List, [], ◌∷◌, ◌++◌, length, map, replicate, set, get_or, take, sum_by, Option, Some, None, inl, inr, refl, sym, ap, ◌∙◌, subst, arith, length-set, length-append, length-take-le, get_or-take, get_or-set_same, get_or-set_other}
+use Rattle.std.proofs.Common.{◌≡◌, ◌≢◌, ℕ, zero, suc, ◌+◌, ◌-◌, ◌*◌, ◌/◌, ◌<◌, ◌≤◌, List, [], ◌∷◌, ◌++◌, length, map, replicate, set, get_or, take, Option, Some, None, inl, inr, refl, sym, ap, ◌∙◌, subst, arith, length-set, length-append, length-take-le, get_or-take, get_or-set_same, get_or-set_other}
 use Rattle.std.proofs.lemmas.Bool.{cases_eq, cases_lt}
 use Rattle.std.proofs.lemmas.List.{same_lists, get_or_append_left, get_or-append_right, get_or-map, get_or-replicate, get_or_past, length-map, length-replicate}
 use Rattle.std.proofs.lemmas.List.Sums.{sum_by_more, sum_by-set}
@@ -9,7 +9,7 @@ use Rattle.pch_region.specs.Blocks.{held_at, size, one, words_of, blocks_of}
 use Rattle.sat_values.specs.ClauseLists.{AreClausesOver}
 use Rattle.link_lists.specs.Linked.{Linked, list_at}
 use Rattle.trail_defs.specs.Assignments.{IsAt}
-use Rattle.sat_trail.specs.Watching.{lit_at, IsBound, HasSizes}
+use Rattle.sat_trail.specs.Watching.{IsBound, HasSizes}
 use Rattle.sat_trail.specs.Kept.{IsKept}
 use Rattle.sat_trail.specs.Loading.{IsLoading, AreLoadedLists}
 use Rattle.sat_trail.specs.declared.levels.Stage.{Stage}

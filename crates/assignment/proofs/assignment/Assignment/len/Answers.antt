@@ -1,4 +1,4 @@
-use Rattle.std.proofs.Common.{◌≤◌, length, ap, arith}
+use Rattle.std.proofs.Common.{ap, arith}
 use Rattle.assignment.specs.Values.{Values}
 use Rattle.assignment.proofs.ApartLemmas.{few_literals}
 use Rattle.assignment.proofs.assignment.Assignment.len.Goals as goal

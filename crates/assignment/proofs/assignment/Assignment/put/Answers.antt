@@ -1,6 +1,6 @@
 use Rattle.std.proofs.lemmas.List.{length_push}
 use Rattle.clause_defs.specs.Literals.{code}
-use Rattle.std.proofs.Common.{◌≡◌, ◌≤◌, ◌∷◌, ◌++◌, [], true, length, set, sym, ap, ◌∙◌, subst, arith}
+use Rattle.std.proofs.Common.{◌≤◌, ◌∷◌, ◌++◌, [], true, length, set, sym, ap, subst, arith}
 use Rattle.trail_defs.specs.Assignments.{IsFree}
 use Rattle.assignment.specs.Values.{Values, AreTruths}
 use Rattle.assignment.proofs.ApartLemmas.{few_literals}

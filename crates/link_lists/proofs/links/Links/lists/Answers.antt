@@ -1,4 +1,4 @@
-use Rattle.std.proofs.Common.{◌≡◌, length, ap, arith}
+use Rattle.std.proofs.Common.{length, ap, arith}
 use Rattle.link_lists.specs.Linked.{Linked}
 use Rattle.link_lists.proofs.links.Links.lists.Goals as goal
 

@@ -1,4 +1,4 @@
-use Rattle.std.proofs.Common.{◌≡◌, ◌≤◌, IfOk, length, take, subst, arith, take_all}
+use Rattle.std.proofs.Common.{IfOk, subst, arith, take_all}
 use Rattle.trail_defs.specs.Trails.{IsOpened}
 use Rattle.sat_trail.proofs.trail.Trail.open.Goals as goal
 

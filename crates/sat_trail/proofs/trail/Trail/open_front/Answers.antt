@@ -1,4 +1,4 @@
-use Rattle.std.proofs.Common.{◌≡◌, ◌+◌, ◌*◌, ◌<◌, ◌≤◌, [], None, length, replicate, take, refl, sym, ap, ◌∙◌, subst, arith, length-take-le}
+use Rattle.std.proofs.Common.{◌+◌, ◌*◌, [], None, length, refl, sym, ap, ◌∙◌, subst, arith, length-take-le}
 use Rattle.std.proofs.lemmas.List.{length-replicate}
 use Rattle.sat_trail.specs.Watching.{HasSizes}
 use Rattle.sat_trail.specs.Kept.{IsKept}

@@ -36,11 +36,11 @@ module _ (log : LogValue) (c : Lits) (antecedents : List ℕ) (index : ℕ) (lat
   taken_refutes empty =
       let d : Derived = record { lits = c; antecedents = antecedents } in
       let long : length later.derived ≡ length log.derived + 1 =
-          ap (λ (l : LogValue). length l.derived) taken.appended ∙ length-append log.derived (d ∷ []) in
+      ap (λ (l : LogValue). length l.derived) taken.appended ∙ length-append log.derived (d ∷ []) in
       let first : length later.originals.clauses ≡ length log.originals.clauses = ap (λ (l : LogValue). length l.originals.clauses) taken.appended in
       let next = taken.next in
       let is : clause_of_log later index ≡ [] =
-          ap (λ (l : LogValue). clause_of_log l index) taken.appended ∙ new_clause log d index next ∙ empty in
+      ap (λ (l : LogValue). clause_of_log l index) taken.appended ∙ new_clause log d index next ∙ empty in
       record {
         derived = record {
           behind_originals = omega arith;
@@ -87,8 +87,8 @@ pub reasoned_with : (log : LogValue) (t : Assigned) (is : List ℕ) → IsTrail 
     → t.variables < length levels → t.variables < length reasons → IsReasoned log present lits levels reasons indices
 reasoned_with log t is known knows present lits levels reasons indices p l v r i level_size reason_size =
     let reasoned =
-        trail_reasoned log t is known knows (subst (λ (ns : List ℕ). t.variables < length ns) v level_size)
-        (subst (λ (ns : List ℕ). t.variables < length ns) r reason_size) in
+    trail_reasoned log t is known knows (subst (λ (ns : List ℕ). t.variables < length ns) v level_size)
+    (subst (λ (ns : List ℕ). t.variables < length ns) r reason_size) in
     subst (λ n. IsReasoned log n lits levels reasons indices) (sym p)
     (subst (λ (ls : Lits). IsReasoned log t.present ls levels reasons indices) (sym l)
     (subst (λ (ns : List ℕ). IsReasoned log t.present t.lits ns reasons indices) (sym v)
@@ -136,16 +136,16 @@ pub taught_with : (log : LogValue) (t : Assigned) (trail : Lits) (levels : List 
 taught_with log t trail levels present antecedents c again d b lits_are levels_are present_is again_are same lesson asserting second =
     let u = asserting.0 in
     let own : IsAsserting t.levels t.present c u =
-        subst (λ n. IsAsserting t.levels n c u) present_is (subst (λ (ns : List ℕ). IsAsserting ns present c u) levels_are asserting.1) in
+    subst (λ n. IsAsserting t.levels n c u) present_is (subst (λ (ns : List ℕ). IsAsserting ns present c u) levels_are asserting.1) in
     let there : IsAsserting again present d u =
-        subst (λ (ns : List ℕ). IsAsserting ns present d u) (levels_are ∙ sym again_are)
-        (subst (λ (e : Lits). IsAsserting levels present e u) (sym same) asserting.1) in
+    subst (λ (ns : List ℕ). IsAsserting ns present d u) (levels_are ∙ sym again_are)
+    (subst (λ (e : Lits). IsAsserting levels present e u) (sym same) asserting.1) in
     let far = second u there in
     let near : IsSecondLevel t.levels t.present c u b =
-        subst (λ n. IsSecondLevel t.levels n c u b) present_is
-        (subst (λ (ns : List ℕ). IsSecondLevel ns present c u b) again_are
-        (subst (λ (e : Lits). IsSecondLevel again present e u b) same far)) in
+    subst (λ n. IsSecondLevel t.levels n c u b) present_is
+    (subst (λ (ns : List ℕ). IsSecondLevel ns present c u b) again_are
+    (subst (λ (e : Lits). IsSecondLevel again present e u b) same far)) in
     let own_lesson =
-        subst (λ (ls : Lits). IsLesson log ls t.levels antecedents c) lits_are
-        (subst (λ (ns : List ℕ). IsLesson log trail ns antecedents c) levels_are lesson) in
+    subst (λ (ls : Lits). IsLesson log ls t.levels antecedents c) lits_are
+    (subst (λ (ns : List ℕ). IsLesson log trail ns antecedents c) levels_are lesson) in
     (u, taught_of log t antecedents c u b own_lesson own near)

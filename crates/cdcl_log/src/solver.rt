@@ -42,7 +42,7 @@ const LEAST_WORDS: u32 = 4;
 impl Model for Solver {
     ghost use Rattle.std.specs.Prelude.{◌≡◌, ◌+◌};
     ghost use Rattle.settled_levels.specs.Levels.{IsSettledBelow};
-ghost use Rattle.search_defs.specs.Solving.{Solving};
+    ghost use Rattle.search_defs.specs.Solving.{Solving};
 
     ghost Value = { Solving };
 
@@ -159,7 +159,12 @@ impl Solver {
         match self.lesson.derive(log, self.limit) {
             Ok(index) => {
                 back_to(&mut self.trail, &mut self.order, second);
-                put(&mut self.trail, &mut self.indices, self.lesson.lits(), index);
+                put(
+                    &mut self.trail,
+                    &mut self.indices,
+                    self.lesson.lits(),
+                    index,
+                );
                 None
             }
             Err(over) => Some(CdclEnd::Spent {

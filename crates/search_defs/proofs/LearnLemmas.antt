@@ -87,7 +87,7 @@ module _ (log : LogValue) (d : Derived) where
               })
           | inr e ↦
               let is : SameSet d.lits [] =
-                  subst (λ (e : Lits). SameSet e []) (ap (λ n. clause_of_log (with_derived log d) n) e ∙ new_clause) derived.same in
+              subst (λ (e : Lits). SameSet e []) (ap (λ n. clause_of_log (with_derived log d) n) e ∙ new_clause) derived.same in
               (is u).0 there
         ]
 
@@ -129,15 +129,13 @@ module _ (log : LogValue) (s : Solving) (solving : IsSolving log s) (known : IsT
       | inl is ↦
           let own : Some d.lits ≡ Some e = sym at_new ∙ ap (λ m. clause_at now.clauses m) (sym is) ∙ live in
           let lits : d.lits ≡ e = cc in
-          let place : get_or (set s.indices (suc j) index) n 0 ≡ index = ap (λ m. get_or (set s.indices (suc j) index) m 0) is ∙ index_new in
-          (
+          let place : get_or (set s.indices (suc j) index) n 0 ≡ index = ap (λ m. get_or (set s.indices (suc j) index) m 0) is ∙ index_new in (
             subst (IsIndexOf (with_derived log d)) (sym place) (new_index log d index next),
             ap (λ i. clause_of_log (with_derived log d) i) place ∙ new_clause log d index next ∙ lits,
           )
       | inr ne ↦
           let own = solving.knows.known n e (sym (at_other n ne) ∙ live) in
-          let place = index_other n ne in
-          (
+          let place = index_other n ne in (
             subst (IsIndexOf (with_derived log d)) (sym place) (old_index log d (get_or s.indices n 0) own.0),
             ap (λ i. clause_of_log (with_derived log d) i) place ∙ old_clause log d (get_or s.indices n 0) own.0 ∙ own.1,
           )
@@ -150,8 +148,8 @@ module _ (log : LogValue) (s : Solving) (solving : IsSolving log s) (known : IsT
     | inl old ↦
         let live = solving.live i old in
         let ne : live.0 ≢ suc j =
-            λ e. (let none : clause_at s.trail.clauses live.0 ≡ None = ap (λ m. clause_at s.trail.clauses m) e ∙ was_fresh in
-            let some = live.2 in absurd (cc)) in
+        λ e. (let none : clause_at s.trail.clauses live.0 ≡ None = ap (λ m. clause_at s.trail.clauses m) e ∙ was_fresh in
+        let some = live.2 in absurd (cc)) in
         (live.0, live.1, at_other live.0 ne ∙ live.2, index_other live.0 ne ∙ live.3)
     | inr e ↦ (suc j, d.lits, at_new, index_new ∙ sym e)
   ]

@@ -86,16 +86,14 @@ solving_opened log limit t indices nothing limited begun size_is own =
             let is = live_clause cs (limit / 4) k c (subst (λ os. clause_at os k ≡ Some c) held live) in
             let low = is.0 in
             let high = is.1 in
-            let at = own k high in
-            (
+            let at = own k high in (
               subst (IsIndexOf log) (sym at) (record { low = low; high = omega arith }),
               ap (λ i. clause_of_log log i) at ∙ clause_with-original cs log.derived k low high ∙ is.2,
             );
       };
       live = λ index there.
           let low = there.low in
-          let high : index ≤ length cs = let all = there.high in omega arith in
-          (
+          let high : index ≤ length cs = let all = there.high in omega arith in (
             index,
             get_or cs (index - 1) [],
             subst (λ os. clause_at os index ≡ Some (get_or cs (index - 1) [])) (sym held) (clause_live cs (limit / 4) index low high),

@@ -46,8 +46,8 @@ point_reached log s solving total satisfied = record {
       let is : clause_of_log log (at.0 + 1) ≡ live.1 = subst (λ i. clause_of_log log i ≡ live.1) live.3 own.1 in
       let place : at.0 + 1 - 1 ≡ at.0 = omega arith in
       let original : clause_of_log log (at.0 + 1) ≡ c =
-          clause_with-original log.originals.clauses log.derived (at.0 + 1) (omega arith) (omega arith)
-          ∙ ap (λ m. get_or log.originals.clauses m []) place ∙ at.2 in
+      clause_with-original log.originals.clauses log.derived (at.0 + 1) (omega arith) (omega arith)
+      ∙ ap (λ m. get_or log.originals.clauses m []) place ∙ at.2 in
       subst (IsSatisfied s.trail.lits) (sym is ∙ original) (satisfied live.0 live.1 live.2);
   not_empty = solving.none_empty;
 }

@@ -53,7 +53,7 @@ front_of levels b (x ∷ xs) rising = elim (cases_lt b (get_or levels x.variable
   }
   | inr low ↦
       let tail : AreRising levels xs =
-          λ i l m at h. rising (suc i) l m (record { within = let w = at.within in omega arith; read = at.read }) (inr h) in
+      λ i l m at h. rising (suc i) l m (record { within = let w = at.within in omega arith; read = at.read }) (inr h) in
       let rest = front_of levels b xs tail in
       record {
         size = suc rest.size;

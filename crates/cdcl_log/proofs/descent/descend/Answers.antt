@@ -35,8 +35,8 @@ deciding-smaller c =
 pub deciding-preserved : goal.deciding-preserved
 deciding-preserved c =
     let settled =
-        settled_grown c.deciding.trail c.propagate.new.self c.propagate.ensures.grown c.propagate.ensures.present c.propagate.ensures.same.clauses
-        c.deciding.invariant.settled in
+    settled_grown c.deciding.trail c.propagate.new.self c.propagate.ensures.grown c.propagate.ensures.present c.propagate.ensures.same.clauses
+    c.deciding.invariant.settled in
     record {
       settled =
           settled_assigned c.propagate.new.self c.assign.new.self c.in_ok-l-in-None.l c.choose.ensures.known c.assign.ensures.lits c.assign.ensures.others

@@ -60,7 +60,7 @@ analyze-requires-clause-present c =
     let levels = c.levels.ensures.levels ∙ ap (λ (v : Solving). v.trail.levels) c.self.view_is in
     let high : 1 ≤ c.args.self.now.trail.present = let above = c.if-present-eq0.false in omega arith in
     let some =
-        present_known c.args.log.now c.args.self.now c.requires.solving known high c.args.number index conflict.0 conflict.1 conflict.2 read in
+    present_known c.args.log.now c.args.self.now c.requires.solving known high c.args.number index conflict.0 conflict.1 conflict.2 read in
     (some.0, some.1, ap (λ ns. get_or ns some.0.variable 0) levels ∙ some.2 ∙ sym present)
 
 -- the clauses that it follows from are over the variables
@@ -69,7 +69,7 @@ bump-requires-clause-within c index h l here =
     let s : Solving = record { limit = c.self.inside.limit; trail = c.self.inside.trail; indices = c.self.inside.indices.items } in
     let solving = subst (IsSolving c.args.log.now) (sym c.self.view_is) c.requires.solving in
     let within =
-        clause_within c.args.log.now s solving c.present-present.ensures.known index (c.analyze.ensures.lesson.indices_are index h) l here in
+    clause_within c.args.log.now s solving c.present-present.ensures.known index (c.analyze.ensures.lesson.indices_are index h) l here in
     let over = solving.knows.over in
     let own = c.analyze.ensures.variables in
     let kept = c.self.invariant.0 in omega arith
@@ -79,10 +79,10 @@ pub derive-requires-clause-is_new : goal.derive-requires-clause-is_new
 derive-requires-clause-is_new c =
     let s : Solving = record { limit = c.self.inside.limit; trail = c.self.inside.trail; indices = c.self.inside.indices.items } in
     let taught =
-        taught_with c.args.log.now c.self.inside.trail c.literals.result.now c.levels.result.now c.present-present.result
-        c.analyze.new.self.antecedents c.analyze.new.self.lits c.levels-2.result.now c.lits.result.now c.second_level-second.result
-        c.literals.ensures.literals c.levels.ensures.levels c.present-present.ensures.present c.levels-2.ensures.levels c.lits.ensures
-        c.analyze.ensures.lesson c.analyze.ensures.asserting c.second_level-second.ensures in
+    taught_with c.args.log.now c.self.inside.trail c.literals.result.now c.levels.result.now c.present-present.result
+    c.analyze.new.self.antecedents c.analyze.new.self.lits c.levels-2.result.now c.lits.result.now c.second_level-second.result
+    c.literals.ensures.literals c.levels.ensures.levels c.present-present.ensures.present c.levels-2.ensures.levels c.lits.ensures
+    c.analyze.ensures.lesson c.analyze.ensures.asserting c.second_level-second.ensures in
     lesson_is_new c.args.log.now s c.analyze.new.self.lits taught.0 c.second_level-second.result
     (subst (IsSolving c.args.log.now) (sym c.self.view_is) c.requires.solving) c.present-present.ensures.known taught.1
 
@@ -91,10 +91,10 @@ pub returns-in-Ok-clause-solving : goal.returns-in-Ok-clause-solving
 returns-in-Ok-clause-solving c =
     let s : Solving = record { limit = c.self.inside.limit; trail = c.self.inside.trail; indices = c.self.inside.indices.items } in
     let taught =
-        taught_with c.args.log.now c.self.inside.trail c.literals.result.now c.levels.result.now c.present-present.result
-        c.analyze.new.self.antecedents c.analyze.new.self.lits c.levels-2.result.now c.lits.result.now c.second_level-second.result
-        c.literals.ensures.literals c.levels.ensures.levels c.present-present.ensures.present c.levels-2.ensures.levels c.lits.ensures
-        c.analyze.ensures.lesson c.analyze.ensures.asserting c.second_level-second.ensures in
+    taught_with c.args.log.now c.self.inside.trail c.literals.result.now c.levels.result.now c.present-present.result
+    c.analyze.new.self.antecedents c.analyze.new.self.lits c.levels-2.result.now c.lits.result.now c.second_level-second.result
+    c.literals.ensures.literals c.levels.ensures.levels c.present-present.ensures.present c.levels-2.ensures.levels c.lits.ensures
+    c.analyze.ensures.lesson c.analyze.ensures.asserting c.second_level-second.ensures in
     goes_on c.args.log.now c.analyze.new.self.lits c.analyze.new.self.antecedents c.in-Ok.index c.derive.new.log c.in-Ok.ensures.taken s
     (subst (IsSolving c.args.log.now) (sym c.self.view_is) c.requires.solving) c.in-Ok.ensures.limit c.present-present.ensures.known taught.0
     c.second_level-second.result taught.1 c.back_to.new.trail c.back_to.ensures.lits c.back_to.ensures.levels c.back_to.ensures.present

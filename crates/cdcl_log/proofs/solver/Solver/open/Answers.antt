@@ -10,7 +10,7 @@ returns-clause-solving c nothing =
     let log = c.args.log.now in
     let limit = c.args.limit in
     let count : c.len.result ≡ length log.originals.clauses =
-        c.len.ensures.len ∙ ap (λ (f : Formula). length f.clauses) c.originals-set.ensures.originals in
+    c.len.ensures.len ∙ ap (λ (f : Formula). length f.clauses) c.originals-set.ensures.originals in
     let size = c.in_ok-own_indices.ensures.size in
     solving_opened log limit c.in_ok-open.field-0 c.in_ok-own_indices.field-0.items nothing c.requires
     (subst (λ (f : Formula). IsOpened f.variables f.clauses limit (limit / 4) c.in_ok-open.field-0) c.originals-set.ensures.originals

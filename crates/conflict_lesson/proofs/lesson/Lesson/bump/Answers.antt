@@ -19,7 +19,7 @@ bump_all-requires c l h =
     let same : items ≡ c.args.self.now.antecedents = c.antecedents-index-items.ensures ∙ ap (λ (t : Taught). t.antecedents) c.self.view_is in
     let there = Has-get_or items c.loop-index.index-index 0 c.loop-index-test.true in
     let within =
-        c.requires.within (get_or items c.loop-index.index-index 0) (subst (λ is. Has is (get_or items c.loop-index.index-index 0)) same there) l
-        (subst (λ (d : Lits). Has d l) c.clause.ensures.lits h) in
+    c.requires.within (get_or items c.loop-index.index-index 0) (subst (λ is. Has is (get_or items c.loop-index.index-index 0)) same there) l
+    (subst (λ (d : Lits). Has d l) c.clause.ensures.lits h) in
     let order = c.loop-index.invariant in
     let places = c.requires.order in omega arith

@@ -58,6 +58,7 @@ impl Assignment {
     pub fn len(&self) -> usize
         ensures len { result ≡ length self.now.lits }
         ensures few { result ≤ self.now.variables }
+        ensures small { result ≤ MAX_VARIABLE }
         ensures known { IsAssignmentOf self.now.variables self.now.lits }
     {
         self.lits.len()
@@ -66,15 +67,25 @@ impl Assignment {
     /// The literal at a place.
     pub fn get(&self, i: usize) -> Lit
         requires { i < length self.now.lits }
-        ensures { IsAt self.now.lits i result }
+        ensures at { IsAt self.now.lits i result }
+        ensures known { IsAssignmentOf self.now.variables self.now.lits }
     {
         self.lits[i]
+    }
+
+    /// The literals, in their order.
+    pub fn literals(&self) -> &[Lit]
+        ensures lits { result.now ≡ self.now.lits }
+        ensures known { IsAssignmentOf self.now.variables self.now.lits }
+    {
+        &self.lits
     }
 
     /// Whether the literal is true.
     pub fn holds(&self, l: Lit) -> bool
         requires { l.variable ≤ self.now.variables }
-        ensures { IsTrue result ↔ Has self.now.lits l }
+        ensures holds { IsTrue result ↔ Has self.now.lits l }
+        ensures known { IsAssignmentOf self.now.variables self.now.lits }
     {
         self.truths[l.code() as usize]
     }
@@ -85,6 +96,7 @@ impl Assignment {
         requires high { v ≤ self.now.variables }
         ensures some { IfSome result (λ b. Has self.now.lits (record { variable = v; positive = b })) }
         ensures none { IfNone result (IsFree self.now.lits (record { variable = v; positive = true })) }
+        ensures known { IsAssignmentOf self.now.variables self.now.lits }
     {
         if self.truths[2 * v as usize + 1] {
             Some(true)
@@ -101,6 +113,7 @@ impl Assignment {
         requires within { l.variable ≤ self.old.variables }
         ensures lits { self.new.lits ≡ self.old.lits ++ l ∷ [] }
         ensures variables { self.new.variables ≡ self.old.variables }
+        ensures few { length self.new.lits ≤ self.new.variables }
     {
         self.truths[l.code() as usize] = true;
         self.lits.push_reserved(l);

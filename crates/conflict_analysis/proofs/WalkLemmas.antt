@@ -1,5 +1,5 @@
 -- One place further down the trail.
-use Rattle.std.proofs.Common.{◌≡◌, ◌≢◌, ℕ, zero, suc, ◌+◌, ◌<◌, ◌≤◌, inl, inr, List, [], ◌∷◌, length, take, get_or, refl, sym, ◌∙◌, ap, subst, arith}
+use Rattle.std.proofs.Common.{◌≡◌, ◌≢◌, ℕ, zero, suc, ◌+◌, ◌-◌, ◌<◌, ◌≤◌, inl, inr, List, [], ◌∷◌, length, take, get_or, refl, sym, ◌∙◌, ap, subst, arith}
 use Rattle.std.proofs.lemmas.List.{get_or_default}
 use Rattle.clause_defs.specs.Literals.{Literal, negation, code}
 use Rattle.clause_defs.specs.Clauses.{Lits, Has, IsOrdered, WithinVariables}
@@ -173,3 +173,17 @@ module _ (log : LogValue) (present : ℕ) (trail : Lits) (levels reasons indices
               (split.by_level x stays).1 own,
         );
       }
+
+-- where the running clause meets the literal at the next place, and another one, its reason is a clause of the log
+pub next_reason : (log : LogValue) (present : ℕ) (trail : Lits) (levels reasons indices : List ℕ) → IsReasoned log present trail levels reasons indices
+    → (i : ℕ) (r : Chained) → IsToOne log present trail levels i r → (l : Literal) → IsAt trail (i - 1) l → IsOrdered r.present → 1 < length r.present
+    → Has r.present (negation l) → (index : ℕ) → index ≡ get_or indices (reason_in reasons l) 0 → IsReasonAt log trail (i - 1) index
+next_reason log present trail levels reasons indices reasoned i r walk l at ordered two there index e =
+    let low = to_one_positive log present trail levels i r walk in
+    let here : IsToOne log present trail levels (i - 1 + 1) r = subst (λ n. IsToOne log present trail levels n r) (omega arith) walk in
+    one_reason log present trail levels reasons indices reasoned (i - 1) l at present r here.split here.below ordered two there index e
+
+-- the second walk is one place above the next one
+pub few_next : (log : LogValue) (level : ℕ) (trail : Lits) (levels : List ℕ) (p : Lits) (i : ℕ) (r : Chained) → 0 < i
+    → IsToFew log level trail levels p i r → IsToFew log level trail levels p (i - 1 + 1) r
+few_next log level trail levels p i r low walk = subst (λ n. IsToFew log level trail levels p n r) (omega arith) walk

@@ -43,6 +43,13 @@ impl Links {
         Ok(Links { next, heads })
     }
 
+    /// How many lists there are.
+    pub fn lists(&self) -> usize
+        ensures { result ≡ length self.now.lists }
+    {
+        self.heads.len()
+    }
+
     /// Takes the first number of a list, if it has one.
     pub fn pop(&mut self, list: u32) -> Option<u32>
         requires { list < length self.old.lists }

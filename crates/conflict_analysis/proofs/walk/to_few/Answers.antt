@@ -1,4 +1,4 @@
-use Rattle.std.proofs.Common.{◌≡◌, ◌+◌, ◌-◌, ap, sym, ◌∙◌, subst, arith}
+use Rattle.std.proofs.Common.{◌≡◌, ◌-◌, ap, sym, ◌∙◌, subst, arith}
 use Rattle.clause_defs.specs.Literals.{Literal, negation}
 use Rattle.clause_defs.specs.Clauses.{Has}
 use Rattle.log_defs.specs.Logs.{clause_of_log}
@@ -6,8 +6,7 @@ use Rattle.trail_defs.specs.Assignments.{IsAt}
 use Rattle.assignment.proofs.ApartLemmas.{few_literals}
 use Rattle.conflict_chain.proofs.StepLemmas.{at_has}
 use Rattle.conflict_analysis.specs.Analyses.{level_in}
-use Rattle.conflict_analysis.specs.Walks.{IsToFew}
-use Rattle.conflict_analysis.proofs.WalkLemmas.{to_few_pass, to_few_more, reason_within}
+use Rattle.conflict_analysis.proofs.WalkLemmas.{to_few_pass, to_few_more, few_next, reason_within}
 use Rattle.conflict_analysis.proofs.walk.to_few.Goals as goal
 use Rattle.conflict_analysis.proofs.walk.to_few.Goals.{then-not-has-via-then-not-has, then-not-has-via-else-not-has+then-has_present}
 
@@ -32,8 +31,7 @@ loop-i-preserved-then-not-has c =
     let i = c.loop-i.i - 1 in
     let p = c.args.chain.now.present in
     let at : IsAt c.args.trail.now i l = record { within = omega arith; read = c.index-trail-i.is } in
-    let walk : IsToFew c.args.log.now c.args.present c.args.trail.now c.args.levels.now p (i + 1) c.loop-i.chain =
-    subst (λ n. IsToFew c.args.log.now c.args.present c.args.trail.now c.args.levels.now p n c.loop-i.chain) (omega arith) c.loop-i.invariant.walk in
+    let walk = few_next c.args.log.now c.args.present c.args.trail.now c.args.levels.now p c.loop-i.i c.loop-i.chain (omega arith) c.loop-i.invariant.walk in
     record {
       walk =
           to_few_pass c.args.log.now c.args.present c.args.trail.now c.args.levels.now c.args.reasons.now c.args.indices.now c.requires.reasoned i l at
@@ -59,8 +57,7 @@ loop-i-preserved-in_default c =
     let i = c.loop-i.i - 1 in
     let p = c.args.chain.now.present in
     let at : IsAt c.args.trail.now i l = record { within = omega arith; read = c.index-trail-i.is } in
-    let walk : IsToFew c.args.log.now c.args.present c.args.trail.now c.args.levels.now p (i + 1) c.loop-i.chain =
-    subst (λ n. IsToFew c.args.log.now c.args.present c.args.trail.now c.args.levels.now p n c.loop-i.chain) (omega arith) c.loop-i.invariant.walk in
+    let walk = few_next c.args.log.now c.args.present c.args.trail.now c.args.levels.now p c.loop-i.i c.loop-i.chain (omega arith) c.loop-i.invariant.walk in
     record {
       walk =
           to_few_pass c.args.log.now c.args.present c.args.trail.now c.args.levels.now c.args.reasons.now c.args.indices.now c.requires.reasoned i l at
@@ -99,8 +96,7 @@ loop-i-preserved c =
     let i = c.loop-i.i - 1 in
     let p = c.args.chain.now.present in
     let at : IsAt c.args.trail.now i l = record { within = omega arith; read = c.index-trail-i.is } in
-    let walk : IsToFew c.args.log.now c.args.present c.args.trail.now c.args.levels.now p (i + 1) c.loop-i.chain =
-    subst (λ n. IsToFew c.args.log.now c.args.present c.args.trail.now c.args.levels.now p n c.loop-i.chain) (omega arith) c.loop-i.invariant.walk in
+    let walk = few_next c.args.log.now c.args.present c.args.trail.now c.args.levels.now p c.loop-i.i c.loop-i.chain (omega arith) c.loop-i.invariant.walk in
     let there : Has c.loop-i.chain.lits (negation l) = subst (Has c.loop-i.chain.lits) c.negated-negated.ensures (c.has.ensures.0 c.if-not-has.false) in
     let lower : Has c.loop-i.chain.present (negation l) → ⊥ =
     λ h. (let told = c.has_present.ensures.1 (subst (Has c.loop-i.chain.present) (sym c.negated-negated.ensures) h) in let not = c.if-has_present.false in absurd (cc)) in

@@ -6,7 +6,7 @@ use Rattle.trail_defs.specs.Assignments.{IsAt}
 use Rattle.assignment.proofs.ApartLemmas.{few_literals}
 use Rattle.conflict_chain.proofs.StepLemmas.{at_has}
 use Rattle.conflict_analysis.specs.Walks.{IsToOne}
-use Rattle.conflict_analysis.proofs.WalkLemmas.{to_one_positive, to_one_pass, to_one_more, one_reason, reason_within}
+use Rattle.conflict_analysis.proofs.WalkLemmas.{to_one_positive, to_one_pass, to_one_more, next_reason, reason_within}
 use Rattle.conflict_analysis.proofs.walk.to_one.Goals as goal
 
 -- there is a place below
@@ -65,15 +65,12 @@ resolve_at-requires-clause-index c =
     let low = to_one_positive c.args.log.now c.args.present c.args.trail.now c.args.levels.now c.loop-i.i c.loop-i.chain c.loop-i.invariant.walk in
     let high = c.loop-i.invariant.walk.within in
     let l = c.index-trail-i.result in
-    let i = c.loop-i.i - 1 in
-    let at : IsAt c.args.trail.now i l = record { within = omega arith; read = c.index-trail-i.is } in
-    let walk : IsToOne c.args.log.now c.args.present c.args.trail.now c.args.levels.now (i + 1) c.loop-i.chain =
-    subst (λ n. IsToOne c.args.log.now c.args.present c.args.trail.now c.args.levels.now n c.loop-i.chain) (omega arith) c.loop-i.invariant.walk in
+    let at : IsAt c.args.trail.now (c.loop-i.i - 1) l = record { within = omega arith; read = c.index-trail-i.is } in
     let there = subst (Has c.loop-i.chain.present) c.negated.ensures (c.has_present.ensures.0 c.if-not-has_present.false) in
     let two : 1 < length c.loop-i.chain.present = let is = c.present.ensures.present in let test = c.loop-i-test.true in omega arith in
     let reason =
-    one_reason c.args.log.now c.args.present c.args.trail.now c.args.levels.now c.args.reasons.now c.args.indices.now c.requires.reasoned i l at
-    c.args.present c.loop-i.chain walk.split walk.below c.present.ensures.ordered two there c.reason_at-index.result (c.reason_at-index.ensures l at) in
+    next_reason c.args.log.now c.args.present c.args.trail.now c.args.levels.now c.args.reasons.now c.args.indices.now c.requires.reasoned c.loop-i.i c.loop-i.chain
+    c.loop-i.invariant.walk l at c.present.ensures.ordered two there c.reason_at-index.result (c.reason_at-index.ensures l at) in
     reason.index_is
 
 -- the literal has a reason
@@ -82,15 +79,12 @@ resolve_at-requires-clause-reason c =
     let low = to_one_positive c.args.log.now c.args.present c.args.trail.now c.args.levels.now c.loop-i.i c.loop-i.chain c.loop-i.invariant.walk in
     let high = c.loop-i.invariant.walk.within in
     let l = c.index-trail-i.result in
-    let i = c.loop-i.i - 1 in
-    let at : IsAt c.args.trail.now i l = record { within = omega arith; read = c.index-trail-i.is } in
-    let walk : IsToOne c.args.log.now c.args.present c.args.trail.now c.args.levels.now (i + 1) c.loop-i.chain =
-    subst (λ n. IsToOne c.args.log.now c.args.present c.args.trail.now c.args.levels.now n c.loop-i.chain) (omega arith) c.loop-i.invariant.walk in
+    let at : IsAt c.args.trail.now (c.loop-i.i - 1) l = record { within = omega arith; read = c.index-trail-i.is } in
     let there = subst (Has c.loop-i.chain.present) c.negated.ensures (c.has_present.ensures.0 c.if-not-has_present.false) in
     let two : 1 < length c.loop-i.chain.present = let is = c.present.ensures.present in let test = c.loop-i-test.true in omega arith in
     let reason =
-    one_reason c.args.log.now c.args.present c.args.trail.now c.args.levels.now c.args.reasons.now c.args.indices.now c.requires.reasoned i l at
-    c.args.present c.loop-i.chain walk.split walk.below c.present.ensures.ordered two there c.reason_at-index.result (c.reason_at-index.ensures l at) in
+    next_reason c.args.log.now c.args.present c.args.trail.now c.args.levels.now c.args.reasons.now c.args.indices.now c.requires.reasoned c.loop-i.i c.loop-i.chain
+    c.loop-i.invariant.walk l at c.present.ensures.ordered two there c.reason_at-index.result (c.reason_at-index.ensures l at) in
     reason.implies
 
 pub resolve_at-requires-clause-within : goal.resolve_at-requires-clause-within
@@ -98,16 +92,13 @@ resolve_at-requires-clause-within c m h =
     let low = to_one_positive c.args.log.now c.args.present c.args.trail.now c.args.levels.now c.loop-i.i c.loop-i.chain c.loop-i.invariant.walk in
     let high = c.loop-i.invariant.walk.within in
     let l = c.index-trail-i.result in
-    let i = c.loop-i.i - 1 in
-    let at : IsAt c.args.trail.now i l = record { within = omega arith; read = c.index-trail-i.is } in
-    let walk : IsToOne c.args.log.now c.args.present c.args.trail.now c.args.levels.now (i + 1) c.loop-i.chain =
-    subst (λ n. IsToOne c.args.log.now c.args.present c.args.trail.now c.args.levels.now n c.loop-i.chain) (omega arith) c.loop-i.invariant.walk in
+    let at : IsAt c.args.trail.now (c.loop-i.i - 1) l = record { within = omega arith; read = c.index-trail-i.is } in
     let there = subst (Has c.loop-i.chain.present) c.negated.ensures (c.has_present.ensures.0 c.if-not-has_present.false) in
     let two : 1 < length c.loop-i.chain.present = let is = c.present.ensures.present in let test = c.loop-i-test.true in omega arith in
     let reason =
-    one_reason c.args.log.now c.args.present c.args.trail.now c.args.levels.now c.args.reasons.now c.args.indices.now c.requires.reasoned i l at
-    c.args.present c.loop-i.chain walk.split walk.below c.present.ensures.ordered two there c.reason_at-index.result (c.reason_at-index.ensures l at) in
-    let within = reason_within c.args.log.now.originals.variables c.args.trail.now i l (clause_of_log c.args.log.now c.reason_at-index.result) c.requires.reasoned.assignment at (reason.implies l at) m h in
+    next_reason c.args.log.now c.args.present c.args.trail.now c.args.levels.now c.args.reasons.now c.args.indices.now c.requires.reasoned c.loop-i.i c.loop-i.chain
+    c.loop-i.invariant.walk l at c.present.ensures.ordered two there c.reason_at-index.result (c.reason_at-index.ensures l at) in
+    let within = reason_within c.args.log.now.originals.variables c.args.trail.now (c.loop-i.i - 1) l (clause_of_log c.args.log.now c.reason_at-index.result) c.requires.reasoned.assignment at (reason.implies l at) m h in
     let room = c.loop-i.invariant.room in
     let start = c.requires.room in omega arith
 
@@ -124,8 +115,8 @@ loop-i-preserved c =
     let there = subst (Has c.loop-i.chain.present) c.negated.ensures (c.has_present.ensures.0 c.if-not-has_present.false) in
     let two : 1 < length c.loop-i.chain.present = let is = c.present.ensures.present in let test = c.loop-i-test.true in omega arith in
     let reason =
-    one_reason c.args.log.now c.args.present c.args.trail.now c.args.levels.now c.args.reasons.now c.args.indices.now c.requires.reasoned i l at
-    c.args.present c.loop-i.chain walk.split walk.below c.present.ensures.ordered two there c.reason_at-index.result (c.reason_at-index.ensures l at) in
+    next_reason c.args.log.now c.args.present c.args.trail.now c.args.levels.now c.args.reasons.now c.args.indices.now c.requires.reasoned c.loop-i.i c.loop-i.chain
+    c.loop-i.invariant.walk l at c.present.ensures.ordered two there c.reason_at-index.result (c.reason_at-index.ensures l at) in
     record {
       walk =
           to_one_more c.args.log.now c.args.present c.args.trail.now c.args.levels.now c.args.reasons.now c.args.indices.now c.requires.reasoned i l at

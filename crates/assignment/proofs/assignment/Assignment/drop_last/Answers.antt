@@ -1,9 +1,8 @@
-use Rattle.std.proofs.Common.{◌≡◌, ◌≤◌, ◌<◌, ◌-◌, ◌+◌, ◌∷◌, ◌++◌, [], false, length, set, take, get_or, sym, ap, ◌∙◌, subst, arith, refl}
-use Rattle.std.proofs.lemmas.List.{get_or_read, length_push}
-use Rattle.clause_defs.specs.Literals.{Literal, code}
-use Rattle.clause_defs.specs.Clauses.{Lits}
+use Rattle.std.proofs.Common.{◌-◌, false, length, set, take, sym, ap, subst, arith}
+use Rattle.std.proofs.lemmas.List.{get_or_read}
+use Rattle.clause_defs.specs.Literals.{code}
 use Rattle.assignment.specs.Values.{Values, AreTruths}
-use Rattle.assignment.proofs.TruthLemmas.{truths_dropped, last_split, code_inside, last_inside, last_within}
+use Rattle.assignment.proofs.TruthLemmas.{truths_dropped, last_split, last_inside, last_within}
 use Rattle.assignment.proofs.assignment.Assignment.drop_last.Goals as goal
 
 pub index_mut-requires : goal.index_mut-requires

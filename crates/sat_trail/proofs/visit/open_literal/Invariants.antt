@@ -1,0 +1,7 @@
+use Rattle.std.proofs.Common.{◌≢◌, take}
+use Rattle.clause_defs.specs.Literals.{Literal, negation}
+use Rattle.clause_defs.specs.Clauses.{Has}
+use Rattle.sat_trail.proofs.visit.open_literal.Given as goal
+
+abbrev pub invariant-loop-m : goal.invariant-loop-m
+invariant-loop-m l = (m : Literal) → Has (take l.m-index l.lits) m → m ≢ l.o → Has l.values.lits (negation m)

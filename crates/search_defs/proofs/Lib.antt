@@ -1,0 +1,5 @@
+pub mod ReasonLemmas
+pub mod LessonLemmas
+pub mod LearnLemmas
+pub mod OpenLemmas
+pub mod PointLemmas

@@ -1,0 +1,6 @@
+mod Prefixes
+mod RuleSteps
+mod Adding
+mod Copies
+mod Seeing
+mod Publications

@@ -1,6 +1,3 @@
-pub mod Replies
-pub mod Growth
-pub mod Steps
 pub mod Files
-pub mod Answering
-pub mod Listing
+pub mod Settling
+pub mod Seeing

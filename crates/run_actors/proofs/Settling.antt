@@ -18,7 +18,8 @@ use Rattle.script_defs.specs.declared.command.Command.{Command}
 use Rattle.script_defs.specs.declared.command.Command.TheVariants.{Agree, Deliver, Evict}
 use Rattle.script_defs.specs.Transcripts.{ReplyValue, agreed, installed, evicted, full, unagreed, refused, stale}
 use Rattle.session_defs.specs.Files.{Contents, DescribesNet, IsDelivery}
-use Rattle.session_defs.specs.LaneEnds.{makes_entry, LaneAnswers}
+use Rattle.session_defs.specs.LaneEnds.{makes_entry}
+use Rattle.lane_laws.specs.LaneAnswers.{LaneAnswers}
 use Rattle.live_table.specs.Values.{Shape}
 use Rattle.slot_live.specs.declared.errors.ControlError.{ControlError}
 use Rattle.slot_live.specs.declared.errors.ControlError.TheVariants.{Unagreed, Stale, Full, Broken, NoMemory}

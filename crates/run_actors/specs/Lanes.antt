@@ -1,17 +1,26 @@
 -- What a lane does at its turns, and what it ends with.
 use Rattle.std.specs.Prelude.{◌≡◌, ℕ, ◌+◌, ◌<◌, ◌≤◌, if◌then◌else◌, List, [], length, map, All, Result, IfOk}
-use Rattle.fabric_defs.specs.Geometries.{GeometryValue}
+use Rattle.fabric_defs.specs.Geometries.{GeometryValue, IsGeometry}
 use Rattle.live_table.specs.Values.{Shape}
 use Rattle.slot_live.specs.declared.errors.ControlError.{ControlError}
 use Rattle.slot_live.specs.declared.errors.ControlError.TheVariants.{Unagreed, Stale, Full, Broken, NoMemory}
 use Rattle.script_defs.specs.declared.command.Command.{Command}
+use Rattle.script_defs.specs.declared.limits.TheConstants.{MAX_WORKERS}
 use Rattle.script_defs.specs.Transcripts.{ReplyValue, unagreed, stale, full, IsPrintable}
 use Rattle.session_defs.specs.Files.{Contents}
-use Rattle.session_defs.specs.LaneEnds.{makes_entry, entries_made, LaneAnswers, LaneEnds}
+use Rattle.session_defs.specs.LaneEnds.{makes_entry, entries_made, LaneEnds}
+use Rattle.lane_laws.specs.LaneAnswers.{LaneAnswers}
 use Rattle.run_script.specs.declared.reply.Reply.{Reply}
 use Rattle.run_script.specs.Replies.{reply_of}
 use Rattle.run_actors.specs.declared.turn.Turn.{Turn}
 use Rattle.run_actors.specs.Seats.{SeatValue}
+
+-- deliveries are checked on the fabric of the device, by so many workers
+pub record CanCheck (shape : Shape) (g : GeometryValue) (workers : ℕ) : Type 0 where
+  pub fabric : g ≡ shape.geometry
+  pub geometry : IsGeometry g
+  pub some_worker : 1 ≤ workers
+  pub few_workers : workers ≤ MAX_WORKERS
 
 -- the reply to a request that was refused, of which a check was made after so many entries. Want of memory has none
 abbrev pub IsDenial : ℕ → ControlError → ReplyValue → Type 0

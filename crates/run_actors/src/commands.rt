@@ -15,6 +15,7 @@ use fabric::Geometry;
 use pch_base::NoMemory;
 use pch_io::Gate;
 use run_script::Reply;
+use script_defs::MAX_WORKERS;
 use slot_live::{Counted, Look, Naming};
 use std::alloc::Global;
 use std::sync::{Mutex, Wait};
@@ -81,7 +82,7 @@ impl<L: Naming> Seat<L> {
     ) -> Result<Reply, NoMemory>
         requires geometry { g ≡ L.shape.geometry }
         requires some_worker { 1 ≤ workers }
-        requires workers { workers ≤ 64 }
+        requires workers { workers ≤ MAX_WORKERS }
         requires slot { slot < L.shape.slots }
         requires file { IsBundle (map contents_of files.now) file }
         ensures { IfOk result (λ r. TurnEnds L.shape (map contents_of files.now) at

@@ -1,12 +1,11 @@
 //! The commands of a lane, one after another.
 
-ghost use Rattle.std.specs.Prelude.{◌≡◌, ◌<◌, ◌≤◌, [], ℕ, List, length, map, All, IfOk};
-ghost use Rattle.std.specs.Borrow.{Bor};
-ghost use Rattle.fabric_defs.specs.Geometries.{IsGeometry};
-ghost use Rattle.script_defs.specs.declared.command.Command.{Command as CommandValue};
+ghost use Rattle.std.specs.Prelude.{◌≡◌, ◌≤◌, length, map, All, IfOk};
 ghost use Rattle.run_script.specs.Replies.{reply_of};
 ghost use Rattle.run_actors.specs.Loading.{contents_of, CanRun};
-ghost use Rattle.run_actors.specs.Lanes.{TurnEnds, HasEnded};
+ghost use Rattle.run_actors.specs.Lanes.{CanCheck, TurnEnds, HasEnded};
+ghost use Rattle.run_actors.specs.Joined.{CanBegin, JobEnds};
+ghost use Rattle.run_actors.specs.Seats.{nothing_seen};
 
 use crate::loaded::Loaded;
 use crate::replies::{cycle_reply, sweep_reply};
@@ -16,6 +15,7 @@ use fabric::Geometry;
 use pch_base::NoMemory;
 use pch_io::Gate;
 use run_script::{Command, Items, Reply};
+use script_defs::MAX_COMMANDS;
 use slot_live::{Counted, Naming};
 use std::alloc::Global;
 use std::sync::{Mutex, Wait};
@@ -52,9 +52,7 @@ impl<L: Naming> Seat<L> {
         at: Turn,
         command: &Command,
     ) -> Result<Reply, NoMemory>
-        requires geometry { (g ≡ L.shape.geometry) × IsGeometry g }
-        requires some_worker { 1 ≤ workers }
-        requires workers { workers ≤ 64 }
+        requires checks { CanCheck L.shape g workers }
         requires command { CanRun L.shape.geometry L.shape.slots (map contents_of files.now)
             command.now }
         ensures { IfOk result (λ r. TurnEnds L.shape (map contents_of files.now) at command.now
@@ -88,13 +86,11 @@ impl<L: Naming> Seat<L> {
         lane: u32,
         commands: &[Command],
     ) -> Result<Items<Reply>, NoMemory>
-        requires geometry { (g ≡ L.shape.geometry) × IsGeometry g }
-        requires some_worker { 1 ≤ workers }
-        requires workers { workers ≤ 64 }
-        requires few { length commands.now ≤ 65536 }
+        requires checks { CanCheck L.shape g workers }
+        requires few { length commands.now ≤ MAX_COMMANDS }
         requires commands { All
             (CanRun L.shape.geometry L.shape.slots (map contents_of files.now)) commands.now }
-        requires nothing { self.old ≡ record { seen = []; made = 0 } }
+        requires begins { self.old ≡ nothing_seen }
         ensures { IfOk result (λ replies. HasEnded L.shape (map contents_of files.now) lane
             commands.now self.new (map reply_of replies)) }
     {
@@ -126,15 +122,9 @@ pub(crate) fn run_job<L: Naming, R: Threads + Wait + Sync, G: Gate>(
     workers: u32,
     job: Job<'_, L>,
 ) -> Result<Ended<L>, NoMemory>
-    requires geometry { (g ≡ L.shape.geometry) × IsGeometry g }
-    requires some_worker { 1 ≤ workers }
-    requires workers { workers ≤ 64 }
-    requires few { length job.commands.now ≤ 65536 }
-    requires commands { All
-        (CanRun L.shape.geometry L.shape.slots (map contents_of files.now)) job.commands.now }
-    requires nothing { job.seat ≡ record { seen = []; made = 0 } }
-    ensures { IfOk result (λ e. HasEnded L.shape (map contents_of files.now) job.lane
-        job.commands.now e.seat (map reply_of e.replies)) }
+    requires checks { CanCheck L.shape g workers }
+    requires job { CanBegin L.shape (map contents_of files.now) job }
+    ensures { IfOk result (JobEnds L.shape (map contents_of files.now) job) }
 {
     let Job {
         lane,

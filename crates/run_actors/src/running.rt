@@ -1,17 +1,17 @@
 //! Sessions: lanes beside each other, or one after another, on a device of their own.
 
-ghost use Rattle.std.specs.Prelude.{◌≡◌, ◌≤◌, [], length, map, All, IfOk};
+ghost use Rattle.std.specs.Prelude.{◌≡◌, ◌≤◌, length, map, All, Ok, IfOk};
 ghost use Rattle.script_defs.specs.Scripts.{IsScript};
 ghost use Rattle.script_defs.specs.Transcripts.{ArePrintable};
 ghost use Rattle.session_defs.specs.Transcripts.{TranscriptOf};
-ghost use Rattle.live_table.specs.Places.{IsNewAt};
-ghost use Rattle.slot_live.specs.Shares.{IsBlankShare};
 ghost use Rattle.live_table.specs.Values.{shape_of};
+ghost use Rattle.slot_live.specs.Shares.{IsBlankShare};
 ghost use Rattle.run_script.specs.Views.{script_of};
-ghost use Rattle.run_script.specs.Replies.{reply_of, transcript_of};
-ghost use Rattle.run_actors.specs.Loading.{contents_of, CanRun, AreOfKinds};
-ghost use Rattle.run_actors.specs.Lanes.{HasEnded};
-ghost use Rattle.run_actors.specs.Joined.{IsJobOf, AreJobsOf, HaveEnded};
+ghost use Rattle.run_script.specs.Replies.{transcript_of};
+ghost use Rattle.run_actors.specs.Loading.{contents_of, AreOfKinds};
+ghost use Rattle.run_actors.specs.Seats.{IsNewOf};
+ghost use Rattle.run_actors.specs.Lanes.{CanCheck};
+ghost use Rattle.run_actors.specs.Joined.{shape_in, IsDeviceFor, AreJobsOf, CanBegin, JobEnds, HaveEnded, LanesHaveEnded};
 
 use crate::joining::join_lanes;
 use crate::lanes::{Ended, Job, run_job};
@@ -20,6 +20,7 @@ use crate::seat::Seat;
 use pch_base::NoMemory;
 use pch_io::Gate;
 use run_script::{Script, Transcript};
+use script_defs::MAX_LANES;
 use slot_live::{Control, Counted, Evaluator, Naming, OpenError, open};
 use std::alloc::Global;
 use std::marker::Brand;
@@ -44,9 +45,11 @@ fn jobs_of<'a, L: Naming>(
     evaluators: Vec<Evaluator>,
     shares: Vec<Share<L>>,
 ) -> Result<Vec<Job<'a, L>>, NoMemory>
-    requires evaluators { (length evaluators.items ≡ length s.now.lanes)
-        × All (λ e. (e.book ≡ Some L.book) × (e.shape ≡ L.shape) × (e.seen ≡ [])) evaluators.items }
-    requires shares { (length shares.items ≡ length s.now.lanes) × All IsBlankShare shares.items }
+    requires few { length s.now.lanes ≤ MAX_LANES }
+    requires evaluators { length evaluators.items ≡ length s.now.lanes }
+    requires new { All (IsNewOf L.book L.shape) evaluators.items }
+    requires shares { length shares.items ≡ length s.now.lanes }
+    requires blank { All IsBlankShare shares.items }
     ensures { IfOk result (λ jobs. AreJobsOf s.now.lanes jobs.items) }
 {
     let (mut evaluators, mut shares) = (evaluators, shares);
@@ -65,6 +68,20 @@ fn jobs_of<'a, L: Naming>(
     Ok(jobs)
 }
 
+/// The lanes that have run, where none wanted memory.
+fn all_ended<L: Naming>(
+    alloc: Global,
+    results: Vec<Result<Ended<L>, NoMemory>>,
+) -> Result<Vec<Ended<L>>, NoMemory>
+    ensures { IfOk result (λ ended. results.items ≡ map Ok ended.items) }
+{
+    let mut ended = Vec::new(alloc);
+    for result in results {
+        ended.push(result?)?;
+    }
+    Ok(ended)
+}
+
 /// Runs each lane on a thread of its own where one can be made, and joins them all.
 fn run_beside<L: Naming + Send + Sync, R: Threads + Wait + Sync, G: Gate>(
     rt: &R,
@@ -74,16 +91,24 @@ fn run_beside<L: Naming + Send + Sync, R: Threads + Wait + Sync, G: Gate>(
     gate: &G,
     lock: &Mutex<Counted<L>>,
     jobs: Vec<Job<'_, L>>,
-) -> Result<Vec<Ended<L>>, NoMemory> {
+) -> Result<Vec<Ended<L>>, NoMemory>
+    requires script { IsScript (script_of s.now) }
+    requires shape { L.shape ≡ shape_in (script_of s.now) }
+    requires jobs { All (CanBegin L.shape (map contents_of files.now)) jobs.items }
+    ensures { IfOk result
+        (λ ended. HaveEnded L.shape (map contents_of files.now) jobs.items ended.items) }
+{
     let (g, workers) = (s.geometry, s.workers);
-    let results = thread::map_vec(rt, jobs, &|job: Job<'_, L>| {
-        run_job(rt, alloc, gate, lock, files, g, workers, job)
-    })?;
-    let mut ended = Vec::new(alloc);
-    for result in results {
-        ended.push(result?)?;
-    }
-    Ok(ended)
+    let results = thread::map_vec(
+        rt,
+        jobs,
+        &|job: Job<'_, L>| -> Result<Ended<L>, NoMemory>
+            requires { CanCheck L.shape g workers
+                × CanBegin L.shape (map contents_of files.now) job }
+            ensures { IfOk result (JobEnds L.shape (map contents_of files.entry.now) job) }
+        { run_job(rt, alloc, gate, lock, files, g, workers, job) },
+    )?;
+    all_ended(alloc, results)
 }
 
 /// Runs each lane after the one before it.
@@ -95,12 +120,47 @@ fn run_in_turn<L: Naming, R: Threads + Wait + Sync, G: Gate>(
     gate: &G,
     lock: &Mutex<Counted<L>>,
     jobs: Vec<Job<'_, L>>,
-) -> Result<Vec<Ended<L>>, NoMemory> {
+) -> Result<Vec<Ended<L>>, NoMemory>
+    requires script { IsScript (script_of s.now) }
+    requires shape { L.shape ≡ shape_in (script_of s.now) }
+    requires jobs { All (CanBegin L.shape (map contents_of files.now)) jobs.items }
+    ensures { IfOk result
+        (λ ended. HaveEnded L.shape (map contents_of files.now) jobs.items ended.items) }
+{
     let mut ended = Vec::new(alloc);
     for job in jobs {
         ended.push(run_job(rt, alloc, gate, lock, files, s.geometry, s.workers, job)?)?;
     }
     Ok(ended)
+}
+
+/// Runs the lanes of a script in this order, each with an evaluator and a share of its own.
+fn run_all<L: Naming + Send + Sync, R: Threads + Wait + Sync, G: Gate>(
+    rt: &R,
+    alloc: Global,
+    s: &Script,
+    files: &[Loaded],
+    gate: &G,
+    order: Order,
+    lock: &Mutex<Counted<L>>,
+    evaluators: Vec<Evaluator>,
+    shares: Vec<Share<L>>,
+) -> Result<Vec<Ended<L>>, NoMemory>
+    requires script { IsScript (script_of s.now) }
+    requires files { AreOfKinds s.now.files (map contents_of files.now) }
+    requires shape { L.shape ≡ shape_in (script_of s.now) }
+    requires evaluators { length evaluators.items ≡ length s.now.lanes }
+    requires new { All (IsNewOf L.book L.shape) evaluators.items }
+    requires shares { length shares.items ≡ length s.now.lanes }
+    requires blank { All IsBlankShare shares.items }
+    ensures { IfOk result (λ ended. LanesHaveEnded L.shape (map contents_of files.now) s.now.lanes
+        ended.items) }
+{
+    let jobs = jobs_of(alloc, s, evaluators, shares)?;
+    match order {
+        Order::Beside => run_beside(rt, alloc, s, files, gate, lock, jobs),
+        Order::InTurn => run_in_turn(rt, alloc, s, files, gate, lock, jobs),
+    }
 }
 
 /// Runs the lanes of a script on the device of a control, which is ended then.
@@ -114,22 +174,25 @@ fn run_on<L: Naming + Send + Sync, R: Threads + Wait + Sync, G: Gate>(
     blank: Blank,
     control: Control,
     evaluators: Vec<Evaluator>,
-) -> Result<Transcript, NoMemory> {
+) -> Result<Transcript, NoMemory>
+    requires script { IsScript (script_of s.now) }
+    requires files { AreOfKinds s.now.files (map contents_of files.now) }
+    requires device { IsDeviceFor (script_of s.now) control evaluators.items }
+    requires named { (control.book ≡ L.book) × (shape_of control.table ≡ L.shape) }
+    requires ledger { (blank.name ≡ L.name) × (blank.parts ≡ L.parts) }
+    requires parts { blank.parts ≡ length s.now.lanes }
+    ensures printable { IfOk result (λ t. ArePrintable (transcript_of t).lanes) }
+    ensures transcript { IfOk result (λ t. TranscriptOf (script_of s.now)
+        (map contents_of files.now) (transcript_of t)) }
+{
     let parties = s.lanes.as_slice().len() as u32;
     let (counted, shares) = Counted::<L>::new(rt, alloc, blank, control, parties)?;
     let lock = Mutex::new(counted);
-    let ended = match jobs_of(alloc, s, evaluators, shares) {
-        Ok(jobs) => match order {
-            Order::Beside => run_beside(rt, alloc, s, files, gate, &lock, jobs),
-            Order::InTurn => run_in_turn(rt, alloc, s, files, gate, &lock, jobs),
-        },
-        Err(error) => Err(error),
-    };
+    let ended = run_all(
+        rt, alloc, s, files, gate, order, &lock, evaluators, shares,
+    );
     let mut counted = lock.into_inner();
-    let transcript = match ended {
-        Ok(ended) => join_lanes(rt, alloc, s, files, &mut counted, ended),
-        Err(error) => Err(error),
-    };
+    let transcript = join_lanes(rt, alloc, s, files, &mut counted, ended);
     counted.close(rt);
     transcript
 }

@@ -6,7 +6,7 @@ ghost use Rattle.fabric_defs.specs.Geometries.{cell_count};
 ghost use Rattle.journal_defs.specs.Legality.{Legal};
 ghost use Rattle.live_table.specs.Answers.{IsCycle, IsSweep, IsLook};
 ghost use Rattle.slot_live.specs.Shares.{IsBlankShare};
-ghost use Rattle.run_actors.specs.Seats.{SeesMore, LooksOn};
+ghost use Rattle.run_actors.specs.Seats.{nothing_seen, IsNewOf, SeesMore, LooksOn};
 
 use fabric::Geometry;
 use pch_base::{Bits, NoMemory};
@@ -107,11 +107,9 @@ fn learn_front<R: Wait>(rt: &R, evaluator: &mut Evaluator, front: &Front)
 impl<L: Naming> Seat<L> {
     /// A lane that has seen and made nothing yet.
     pub(crate) fn new(evaluator: Evaluator, share: Share<L>) -> Seat<L>
-        requires book { evaluator.book ≡ Some L.book }
-        requires shape { evaluator.shape ≡ L.shape }
-        requires nothing { evaluator.seen ≡ [] }
+        requires evaluator { IsNewOf L.book L.shape evaluator }
         requires share { IsBlankShare share }
-        ensures { result ≡ record { seen = []; made = 0 } }
+        ensures { result ≡ nothing_seen }
     {
         Seat { evaluator, share }
     }
@@ -164,5 +162,17 @@ impl<L: Naming> Seat<L> {
     {
         self.learn(rt, control);
         self.evaluator.seen() <= control.table().len()
+    }
+
+    /// The lane's share, once nothing more is asked.
+    pub(crate) fn into_share(self) -> Share<L>
+        ensures parts { result.parts ≡ 1 }
+        ensures amount { result.amount ≡ self.made }
+    {
+        let Seat {
+            evaluator: _evaluator,
+            share,
+        } = self;
+        share
     }
 }

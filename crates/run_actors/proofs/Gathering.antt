@@ -20,7 +20,8 @@ use Rattle.run_actors.specs.Lanes.{HasEnded}
 use Rattle.run_actors.specs.Joined.{shape_in, parts_in, amount_in, AreGathered}
 
 -- none yet
-pub gathered-nothing : (shape : Shape) (files : List Contents) (h : List EntryValue) → AreGathered shape files h [] [] None
+pub gathered-nothing : {L : Type 0} (shape : Shape) (files : List Contents) (h : List EntryValue) 
+    → AreGathered {L} shape files h [] [] None
 gathered-nothing shape files h = record {
   count = refl;
   ends = λ lane commands r is_lane replied. absurd (none-some commands is_lane);
@@ -38,9 +39,9 @@ lane-caught_up shape files lane commands old new r h end on whole =
     (lane-later shape.geometry shape.limit files old.seen new.seen lane commands r on.later end.ends)
 
 -- one lane more, with its share
-pub gathered-next : (shape : Shape) (files : List Contents) (h : List EntryValue) (lanes : List (List Command)) (i : ℕ)
+pub gathered-next : {L : Type 0} (shape : Shape) (files : List Contents) (h : List EntryValue) (lanes : List (List Command)) (i : ℕ)
     (commands : List Command) (replies : List (List ReplyValue)) (r : List ReplyValue) (old new : SeatValue)
-    (before : Option Share) (share : Share)
+    (before : Option (Share L)) (share : Share L)
     → AreGathered shape files h (take i lanes) replies before → slice_get lanes i ≡ Some commands
     → HasEnded shape files i commands old r → LooksOn old new → new.seen ≡ h
     → share.parts ≡ parts_in before + 1 → share.amount ≡ amount_in before + new.made
@@ -81,8 +82,8 @@ gathered-next shape files h lanes i commands replies r old new before share so_f
         ]
 
 -- all lanes, where their shares together count the whole journal
-pub all-gathered : (s : ScriptValue) (shape : Shape) (files : List Contents) (h : List EntryValue)
-    (replies : List (List ReplyValue)) (whole : Option Share) → shape ≡ shape_in s
+pub all-gathered : {L : Type 0} (s : ScriptValue) (shape : Shape) (files : List Contents) (h : List EntryValue)
+    (replies : List (List ReplyValue)) (whole : Option (Share L)) → shape ≡ shape_in s
     → AreGathered shape files h s.lanes replies whole → amount_in whole ≡ length h → length h ≤ shape.limit
     → LanesEnd s files h replies
 all-gathered s shape files h replies whole is together counted short = record {

@@ -3,6 +3,7 @@ pub mod Listing
 pub mod Zipped
 pub mod Jobs
 pub mod Seeing
+pub mod Asking
 pub mod Settling
 pub mod Turning
 pub mod Gathering

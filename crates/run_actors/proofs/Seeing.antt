@@ -3,7 +3,8 @@ use Rattle.std.proofs.Common.{◌≡◌, List, refl, sym, ap, subst, ◌∙◌}
 use mathlib.Core.List.{IsPrefix}
 use Rattle.live_table.specs.Values.{PlaceValue}
 use Rattle.live_table.specs.Places.{Sees, Misses}
-use Rattle.run_actors.specs.Seats.{SeesAsMuch, SeesMore}
+use Rattle.lane_laws.proofs.Later.{prefix-same, prefix-trans}
+use Rattle.run_actors.specs.Seats.{SeatValue, SeesAsMuch, SeesMore, LooksOn}
 
 -- nothing has happened yet
 pub as_much-same : (p : PlaceValue) → SeesAsMuch p p
@@ -24,3 +25,14 @@ more-seen first old new so_far sees = record {
   shape = sees.stays.shape ∙ so_far.shape;
   later = subst (λ h. IsPrefix h new.seen) so_far.same sees.later;
 }
+
+-- a lane that has only looked on, and then looks on again
+pub looks-again : (first old new : SeatValue) → LooksOn first old → LooksOn old new → LooksOn first new
+looks-again first old new on again = record {
+  later = prefix-trans first.seen old.seen new.seen on.later again.later;
+  made = again.made ∙ on.made;
+}
+
+-- and one that has done nothing yet
+pub looks-on : (s : SeatValue) → LooksOn s s
+looks-on s = record { later = prefix-same s.seen; made = refl }

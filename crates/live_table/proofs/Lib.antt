@@ -3,4 +3,5 @@ mod RuleSteps
 mod Adding
 mod Copies
 mod Seeing
+mod Running
 mod Publications

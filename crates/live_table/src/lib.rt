@@ -28,6 +28,8 @@ mod receipt;
 mod rule;
 mod still;
 mod tasks;
+#[cfg(test)]
+mod tests;
 
 pub use answers::{Look, Since, Sweep};
 pub use evaluator::EvaluatorOver;

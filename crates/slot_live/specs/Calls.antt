@@ -38,20 +38,27 @@ HasOtherNet h slot (agreed net) = ⊥
 HasOtherNet h slot (installed net config) = (other : Network) × (spec_at h slot ≡ Some other) × (other ≢ net)
 HasOtherNet h slot evicted = ⊥
 
--- no cause of a refusal was there, and the entry was published
+-- nothing refuses the entry
+pub record IsFree (c : ControlValue) (e : EntryValue) : Type 0 where
+  pub current : IsCurrent c.table.journal e.slot e.change
+  pub room : length c.table.journal < c.table.limit
+  pub sound : c.broken ≡ false
+
+-- nothing refused the entry, and it was published
 pub record IsMade (old new : ControlValue) (e : EntryValue) (r : Receipt) : Type 0 where
-  pub current : IsCurrent old.table.journal e.slot e.change
-  pub room : length old.table.journal < old.table.limit
-  pub sound : old.broken ≡ false
+  pub free : IsFree old e
   pub published : IsPublished old new e r
 
--- the cause of each refusal, of which the first that is there is answered. Want of memory has none.
+-- the cause of each refusal, of which the first that is there is answered. Want of memory has none, and comes
+-- only where no other refusal does.
 abbrev pub IsDue : ControlValue → EntryValue → ControlError → Type 0
 IsDue c e (Unagreed at) = LacksNet c.table.journal e.slot e.change × (at ≡ length c.table.journal)
 IsDue c e (Stale at) = HasOtherNet c.table.journal e.slot e.change × (at ≡ length c.table.journal)
-IsDue c e (Full limit) = IsCurrent c.table.journal e.slot e.change × (limit ≡ c.table.limit) × (length c.table.journal ≡ limit)
-IsDue c e Broken = IsCurrent c.table.journal e.slot e.change × (length c.table.journal < c.table.limit) × (c.broken ≡ true)
-IsDue c e NoMemory = Unit {0}
+IsDue c e (Full limit) =
+    IsCurrent c.table.journal e.slot e.change × (limit ≡ c.table.limit) × (length c.table.journal ≡ limit)
+IsDue c e Broken =
+    IsCurrent c.table.journal e.slot e.change × (length c.table.journal < c.table.limit) × (c.broken ≡ true)
+IsDue c e NoMemory = IsFree c e
 
 -- the control after a refusal: want of memory breaks it, and no other changes it
 abbrev pub after_refusal : ControlValue → ControlError → ControlValue

@@ -23,7 +23,7 @@ pub asked-made : (e : EntryValue) (old new : SeatValue) (control after : Control
 asked-made e old new control after r abreast made learned counted = record {
   journal = control.table.journal;
   begins = begins-whole old.seen control.table.journal abreast;
-  current = made.current;
+  current = made.free.current;
   behind = subst (λ (c : ControlValue). IsPrefix c.table.journal new.seen) made.published.control learned;
   number_is = made.published.number;
   counted = counted;

@@ -20,7 +20,7 @@ use Rattle.run_actors.specs.Lanes.{HasEnded}
 use Rattle.run_actors.specs.Joined.{shape_in, parts_in, amount_in, AreGathered}
 
 -- none yet
-pub gathered-nothing : {L : Type 0} (shape : Shape) (files : List Contents) (h : List EntryValue) 
+pub gathered-nothing : {L : Type 0} (shape : Shape) (files : List Contents) (h : List EntryValue)
     → AreGathered {L} shape files h [] [] None
 gathered-nothing shape files h = record {
   count = refl;

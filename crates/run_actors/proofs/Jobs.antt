@@ -104,6 +104,6 @@ pub all-have_ended : {L : Type 0} (shape : Shape) (files : List Contents) (jobs 
 all-have_ended {L} shape files jobs results ended long each are =
     zip-from (JobEnds shape files) jobs ended (sym (length-map ended Ok) ∙ sym (ap length are) ∙ long)
     (λ i job e is_job is_ended.
-      each i job (Ok e) is_job
-      (ap (λ (rs : List (Result (Ended L) NoMemory)). slice_get rs i) are ∙ slice_get-map Ok ended i
-      ∙ ap (option_map Ok) is_ended))
+    each i job (Ok e) is_job
+    (ap (λ (rs : List (Result (Ended L) NoMemory)). slice_get rs i) are ∙ slice_get-map Ok ended i
+    ∙ ap (option_map Ok) is_ended))

@@ -6,6 +6,7 @@ use Rattle.net_defs.specs.Networks.{Network}
 use Rattle.fabric_defs.specs.Geometries.{GeometryValue, IsGeometry}
 use Rattle.fabric_defs.specs.Configurations.{ConfigValue}
 use Rattle.fabric_defs.specs.declared.limits.TheConstants.{MAX_SIDE}
+use Rattle.miter_defs.specs.Equality.{FitsPads}
 use Rattle.verify_defs.specs.Acceptance.{AcceptsWith}
 use Rattle.verify_defs.specs.Refusals.{Refuses}
 use Rattle.verify_defs.specs.declared.refusal.Refusal.{Refusal}
@@ -176,3 +177,10 @@ deliver-denied shape files at slot file checked net bytes config old looked new 
     absurd denial
 deliver-denied shape files at slot file checked net bytes config old looked new NoMemory r on agrees then delivered accepted d denial =
     absurd denial
+
+-- an accepted configuration is of the fabric that it was checked for, and its network fits the pads
+pub accepted-is_fit : (g : GeometryValue) (net : Network) (bytes : List ℕ) (config : ConfigValue)
+    → AcceptsWith g net bytes config → (config.geometry ≡ g) × FitsPads net config.geometry
+accepted-is_fit g net bytes config accepted =
+    let same : config.geometry ≡ g = ap (λ (k : ConfigValue). k.geometry) accepted.parts.has_config.2 in
+    (same, subst (FitsPads net) (sym same) accepted.fits)

@@ -42,4 +42,3 @@ pub record HasEnded (shape : Shape) (files : List Contents) (lane : ℕ) (comman
   pub ends : LaneEnds shape.geometry shape.limit files seat.seen lane commands replies
   pub printable : All IsPrintable replies
   pub made : seat.made ≡ entries_made replies
-

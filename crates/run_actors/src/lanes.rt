@@ -101,9 +101,7 @@ impl<L: Naming> Seat<L> {
                 number: number as u32,
             };
             gate.pass(rt, lane, at.number);
-            let reply = self.run_command(
-                rt, alloc, gate, lock, files, g, workers, at, command,
-            )?;
+            let reply = self.run_command(rt, alloc, gate, lock, files, g, workers, at, command)?;
             replies.push(reply)?;
         }
         gate.pass(rt, lane, commands.len() as u32);
@@ -124,15 +122,13 @@ pub(crate) fn run_job<L: Naming, R: Threads + Wait + Sync, G: Gate>(
 ) -> Result<Ended<L>, NoMemory>
     requires checks { CanCheck L.shape g workers }
     requires job { CanBegin L.shape (map contents_of files.now) job }
-    ensures { IfOk result (JobEnds L.shape (map contents_of files.now) job) }
+    ensures { IfOk result (JobEnds L.shape (map contents_of files.now) job.entry) }
 {
     let Job {
         lane,
         commands,
         mut seat,
     } = job;
-    let replies = seat.run(
-        rt, alloc, gate, lock, files, g, workers, lane, commands,
-    )?;
+    let replies = seat.run(rt, alloc, gate, lock, files, g, workers, lane, commands)?;
     Ok(Ended { seat, replies })
 }

@@ -1,6 +1,6 @@
 //! Answers of the device as replies of a transcript.
 
-ghost use Rattle.std.specs.Prelude.{◌≡◌, ◌≢◌, ℕ, List, IfOk};
+ghost use Rattle.std.specs.Prelude.{◌≡◌, ◌≢◌, ℕ, false, List, IfOk};
 ghost use mathlib.Core.List.{IsPrefix};
 ghost use Rattle.fabric_defs.specs.Geometries.{GeometryValue, IsGeometry};
 ghost use Rattle.journal_defs.specs.Journals.{EntryValue};

@@ -96,7 +96,8 @@ fn run_beside<L: Naming + Send + Sync, R: Threads + Wait + Sync, G: Gate>(
     requires shape { L.shape ≡ shape_in (script_of s.now) }
     requires jobs { All (CanBegin L.shape (map contents_of files.now)) jobs.items }
     ensures { IfOk result
-        (λ ended. HaveEnded L.shape (map contents_of files.now) jobs.items ended.items) }
+        (λ ended. HaveEnded L.shape (map contents_of files.now) jobs.entry.items
+        ended.items) }
 {
     let (g, workers) = (s.geometry, s.workers);
     let results = thread::map_vec(
@@ -105,7 +106,7 @@ fn run_beside<L: Naming + Send + Sync, R: Threads + Wait + Sync, G: Gate>(
         &|job: Job<'_, L>| -> Result<Ended<L>, NoMemory>
             requires { CanCheck L.shape g workers
                 × CanBegin L.shape (map contents_of files.now) job }
-            ensures { IfOk result (JobEnds L.shape (map contents_of files.entry.now) job) }
+            ensures { IfOk result (JobEnds L.shape (map contents_of files.entry.now) job.entry) }
         { run_job(rt, alloc, gate, lock, files, g, workers, job) },
     )?;
     all_ended(alloc, results)
@@ -125,7 +126,8 @@ fn run_in_turn<L: Naming, R: Threads + Wait + Sync, G: Gate>(
     requires shape { L.shape ≡ shape_in (script_of s.now) }
     requires jobs { All (CanBegin L.shape (map contents_of files.now)) jobs.items }
     ensures { IfOk result
-        (λ ended. HaveEnded L.shape (map contents_of files.now) jobs.items ended.items) }
+        (λ ended. HaveEnded L.shape (map contents_of files.now) jobs.entry.items
+        ended.items) }
 {
     let mut ended = Vec::new(alloc);
     for job in jobs {
@@ -188,9 +190,7 @@ fn run_on<L: Naming + Send + Sync, R: Threads + Wait + Sync, G: Gate>(
     let parties = s.lanes.as_slice().len() as u32;
     let (counted, shares) = Counted::<L>::new(rt, alloc, blank, control, parties)?;
     let lock = Mutex::new(counted);
-    let ended = run_all(
-        rt, alloc, s, files, gate, order, &lock, evaluators, shares,
-    );
+    let ended = run_all(rt, alloc, s, files, gate, order, &lock, evaluators, shares);
     let mut counted = lock.into_inner();
     let transcript = join_lanes(rt, alloc, s, files, &mut counted, ended);
     counted.close(rt);

@@ -53,13 +53,7 @@ fn cycle_of<R: Wait>(rt: &R, evaluator: &mut Evaluator, slot: u32, bits: Bits, p
 }
 
 /// Asks for a sweep until the evaluator isn't refused.
-fn sweep_of<R: Wait>(
-    rt: &R,
-    evaluator: &mut Evaluator,
-    slot: u32,
-    first: u64,
-    count: u32,
-) -> Sweep
+fn sweep_of<R: Wait>(rt: &R, evaluator: &mut Evaluator, slot: u32, first: u64, count: u32) -> Sweep
     requires slot { slot < evaluator.old.shape.slots }
     ensures more { SeesMore evaluator.old evaluator.new }
     ensures legal { Legal evaluator.new.shape.geometry evaluator.new.shape.slots

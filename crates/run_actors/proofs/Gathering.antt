@@ -8,10 +8,14 @@ use Rattle.std.proofs.lemmas.Option.{none-some, slice_get_within}
 use Rattle.core.specs.declared.ledger.Share.{Share}
 use Rattle.journal_defs.specs.Journals.{EntryValue}
 use Rattle.script_defs.specs.declared.command.Command.{Command}
+use Rattle.script_defs.specs.declared.line.Line.{Line}
 use Rattle.script_defs.specs.Scripts.{ScriptValue}
 use Rattle.script_defs.specs.Transcripts.{ReplyValue, IsPrintable}
 use Rattle.session_defs.specs.Files.{Contents}
 use Rattle.session_defs.specs.LaneEnds.{entries_made, LaneEnds, LanesEnd}
+use Rattle.session_defs.specs.Lines.{lines_of}
+use Rattle.session_defs.specs.Transcripts.{IsTranscript, TranscriptOf}
+use Rattle.lane_laws.proofs.Joined.{lanes-transcript}
 use Rattle.lane_laws.proofs.Turns.{slice_get-split, take-next}
 use Rattle.lane_laws.proofs.Later.{prefix-same, lane-later}
 use Rattle.live_table.specs.Values.{Shape}
@@ -94,3 +98,13 @@ all-gathered s shape files h replies whole is together counted short = record {
   counted = sym together.amount ∙ counted;
   short = subst (λ (f : Shape). length h ≤ f.limit) is short;
 }
+
+-- so their replies and the lines of the journal are a transcript
+pub gathered-transcript : {L : Type 0} (s : ScriptValue) (shape : Shape) (files : List Contents) (h : List EntryValue)
+    (replies : List (List ReplyValue)) (whole : Option (Share L)) (lines : List Line) → shape ≡ shape_in s
+    → AreGathered shape files h s.lanes replies whole → amount_in whole ≡ length h → length h ≤ shape.limit
+    → lines ≡ lines_of h → TranscriptOf s files (record { journal = lines; lanes = replies })
+gathered-transcript s shape files h replies whole lines is together counted short shown =
+    (h,
+    subst (λ ls. IsTranscript s files (record { journal = ls; lanes = replies }) h) (sym shown)
+    (lanes-transcript s files h replies (all-gathered s shape files h replies whole is together counted short)))

@@ -1,17 +1,17 @@
 -- The lanes of a script as jobs, and the jobs that have ended as its lanes.
-use Rattle.std.proofs.Common.{◌≡◌, ℕ, ◌+◌, ◌≤◌, inl, inr, List, [], ◌∷◌, ◌++◌, length, length-append, get_or, map, sum_by, All, Result, Some, Ok, IfOk, refl, sym, ap, subst, ◌∙◌, arith}
+use Rattle.std.proofs.Common.{◌≡◌, ℕ, ◌+◌, ◌≤◌, inl, inr, List, [], ◌∷◌, ◌++◌, length, length-append, take, get_or, map, sum_by, All, Result, Some, Ok, IfOk, refl, sym, ap, subst, ◌∙◌, arith}
 use Rattle.std.specs.List.{slice_get, AllZip}
 use Rattle.std.specs.Option.{option_map}
-use Rattle.std.proofs.lemmas.List.{length-map}
+use Rattle.std.proofs.lemmas.List.{length-map, map-append}
 use Rattle.std.proofs.lemmas.List.Sums.{get_or-le-sum_by}
 use Rattle.std.proofs.lemmas.Option.{none-some, same_Some, slice_get-map, slice_get_within, get_or_from_slice_get}
-use Rattle.std.proofs.lemmas.Slice.Zip.{AllZip-long}
+use Rattle.std.proofs.lemmas.Slice.Zip.{AllZip-long, all_zipped_more}
 use Rattle.pch_base.specs.declared.memory.NoMemory.{NoMemory}
 use Rattle.script_defs.specs.declared.command.Command.{Command}
 use Rattle.script_defs.specs.declared.limits.TheConstants.{MAX_COMMANDS}
 use Rattle.script_defs.specs.Scripts.{ScriptValue, IsScript, IsCommand}
 use Rattle.session_defs.specs.Files.{Contents}
-use Rattle.lane_laws.proofs.Turns.{slice_get-split}
+use Rattle.lane_laws.proofs.Turns.{slice_get-split, take-next}
 use Rattle.live_table.specs.Values.{Shape}
 use Rattle.run_script.specs.Replies.{reply_of}
 use Rattle.run_actors.specs.declared.lanes.Job.{Job}
@@ -107,3 +107,21 @@ all-have_ended {L} shape files jobs results ended long each are =
     each i job (Ok e) is_job
     (ap (λ (rs : List (Result (Ended L) NoMemory)). slice_get rs i) are ∙ slice_get-map Ok ended i
     ∙ ap (option_map Ok) is_ended))
+
+-- one job more has ended
+pub one-more_ended : {L : Type 0} (shape : Shape) (files : List Contents) (jobs : List (Job L)) (i : ℕ) (job : Job L)
+    (ended more : List (Ended L)) (e : Ended L) → HaveEnded shape files (take i jobs) ended
+    → slice_get jobs i ≡ Some job → JobEnds shape files job e → more ≡ ended ++ e ∷ []
+    → HaveEnded shape files (take (i + 1) jobs) more
+one-more_ended shape files jobs i job ended more e so_far found is longer =
+    subst (HaveEnded shape files (take (i + 1) jobs)) (sym longer)
+    (subst (λ js. HaveEnded shape files js (ended ++ e ∷ [])) (sym (take-next jobs i job found))
+    (all_zipped_more (JobEnds shape files) (take i jobs) ended job e so_far is))
+
+-- one result more is a value
+pub one-more_value : {X E : Type 0} (results : List (Result X E)) (i : ℕ) (r : Result X E) (values more : List X) (x : X)
+    → take i results ≡ map Ok values → slice_get results i ≡ Some r → r ≡ Ok x → more ≡ values ++ x ∷ []
+    → take (i + 1) results ≡ map Ok more
+one-more_value results i r values more x so_far found is longer =
+    take-next results i r found ∙ ap (λ rs. rs ++ r ∷ []) so_far ∙ ap (λ q. map Ok values ++ q ∷ []) is
+    ∙ sym (map-append Ok values (x ∷ [])) ∙ sym (ap (map Ok) longer)

@@ -1,5 +1,5 @@
 -- What becomes of a request that a lane makes where it has seen just the journal.
-use Rattle.std.proofs.Common.{◌≡◌, ℕ, ◌+◌, List, ◌∷◌, ◌++◌, Result, Ok, Err, refl, sym, ap, subst, ◌∙◌}
+use Rattle.std.proofs.Common.{◌≡◌, ℕ, ◌+◌, List, Result, Ok, Err, refl, ap, subst, ◌∙◌}
 use mathlib.Core.List.{IsPrefix}
 use Rattle.journal_defs.specs.Journals.{EntryValue}
 use Rattle.slot_core.specs.Values.{TableValue}

@@ -1,7 +1,7 @@
 -- Lanes that have ended, taken together one after another.
-use Rattle.std.proofs.Common.{◌≡◌, ℕ, ◌+◌, ◌≤◌, inl, inr, List, [], ◌∷◌, ◌++◌, length, take, All, sum_by, None, Some, Option, refl, sym, ap, subst, ◌∙◌, arith, length-append}
+use Rattle.std.proofs.Common.{◌≡◌, ℕ, ◌+◌, ◌≤◌, inl, inr, List, [], ◌∷◌, ◌++◌, length, take, All, None, Some, Option, refl, sym, subst, ◌∙◌, arith, length-append}
 use Rattle.std.specs.List.{slice_get}
-use Rattle.std.proofs.lemmas.List.{length-take-le, take_all}
+use Rattle.std.proofs.lemmas.List.{length-take-le}
 use Rattle.std.proofs.lemmas.List.Elements.{All-nil, All-push}
 use Rattle.std.proofs.lemmas.List.Sums.{sum_by_push}
 use Rattle.std.proofs.lemmas.Option.{none-some, slice_get_within}
@@ -17,7 +17,7 @@ use Rattle.session_defs.specs.Lines.{lines_of}
 use Rattle.session_defs.specs.Transcripts.{IsTranscript, TranscriptOf}
 use Rattle.lane_laws.proofs.Joined.{lanes-transcript}
 use Rattle.lane_laws.proofs.Turns.{slice_get-split, take-next}
-use Rattle.lane_laws.proofs.Later.{prefix-same, lane-later}
+use Rattle.lane_laws.proofs.Later.{lane-later}
 use Rattle.live_table.specs.Values.{Shape}
 use Rattle.run_actors.specs.Seats.{SeatValue, LooksOn}
 use Rattle.run_actors.specs.Lanes.{HasEnded}

@@ -1,5 +1,5 @@
 -- What an evaluator has seen after calls that are made again until it isn't refused.
-use Rattle.std.proofs.Common.{◌≡◌, List, refl, sym, ap, subst, ◌∙◌}
+use Rattle.std.proofs.Common.{refl, subst, ◌∙◌}
 use mathlib.Core.List.{IsPrefix}
 use Rattle.live_table.specs.Values.{PlaceValue}
 use Rattle.live_table.specs.Places.{Sees, Misses}

@@ -1,6 +1,5 @@
 -- What a lane's commands are answered, by what was looked up and by what became of the change that it asked for.
-use Rattle.std.proofs.Common.{◌≡◌, ◌≢◌, ℕ, ◌+◌, ◌≤◌, inl, inr, false, if◌then◌else◌, List, [], length, None, Some, refl, sym, ap, subst, ◌∙◌, arith}
-use mathlib.Core.List.{IsPrefix}
+use Rattle.std.proofs.Common.{◌≡◌, ◌≢◌, ℕ, ◌+◌, ◌≤◌, false, if◌then◌else◌, List, length, None, Some, refl, sym, ap, subst, ◌∙◌, arith}
 use Rattle.std.proofs.lemmas.Option.{same_Some}
 use Rattle.net_defs.specs.Networks.{Network}
 use Rattle.fabric_defs.specs.Geometries.{GeometryValue, IsGeometry}

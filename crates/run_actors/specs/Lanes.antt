@@ -1,5 +1,5 @@
 -- What a lane does at its turns, and what it ends with.
-use Rattle.std.specs.Prelude.{◌≡◌, ℕ, ◌+◌, ◌<◌, ◌≤◌, if◌then◌else◌, List, [], length, map, All, Result, IfOk}
+use Rattle.std.specs.Prelude.{◌≡◌, ℕ, ◌+◌, ◌≤◌, if◌then◌else◌, List, All}
 use Rattle.fabric_defs.specs.Geometries.{GeometryValue, IsGeometry}
 use Rattle.live_table.specs.Values.{Shape}
 use Rattle.slot_live.specs.declared.errors.ControlError.{ControlError}
@@ -10,8 +10,6 @@ use Rattle.script_defs.specs.Transcripts.{ReplyValue, unagreed, stale, full, IsP
 use Rattle.session_defs.specs.Files.{Contents}
 use Rattle.session_defs.specs.LaneEnds.{makes_entry, entries_made, LaneEnds}
 use Rattle.lane_laws.specs.LaneAnswers.{LaneAnswers}
-use Rattle.run_script.specs.declared.reply.Reply.{Reply}
-use Rattle.run_script.specs.Replies.{reply_of}
 use Rattle.run_actors.specs.declared.turn.Turn.{Turn}
 use Rattle.run_actors.specs.Seats.{SeatValue}
 

@@ -25,7 +25,7 @@ use Rattle.run_actors.specs.Joined.{shape_in, parts_in, amount_in, AreGathered}
 
 -- none yet
 pub gathered-nothing : {L : Type 0} (shape : Shape) (files : List Contents) (h : List EntryValue)
-    → AreGathered {L} shape files h [] [] None
+    → AreGathered {L = L} shape files h [] [] None
 gathered-nothing shape files h = record {
   count = refl;
   ends = λ lane commands r is_lane replied. absurd (none-some commands is_lane);

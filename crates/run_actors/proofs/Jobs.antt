@@ -36,7 +36,7 @@ pub record AreFirstJobs {L : Type 0} (lanes : List (List Command)) (count : ℕ)
   pub each : (number : ℕ) (job : Job L) → slice_get jobs number ≡ Some job → IsJobOf lanes number job
 
 -- no lane has one yet
-pub no-jobs : {L : Type 0} (lanes : List (List Command)) → AreFirstJobs {L} lanes 0 []
+pub no-jobs : {L : Type 0} (lanes : List (List Command)) → AreFirstJobs {L = L} lanes 0 []
 no-jobs lanes = record { count_is = refl; each = λ number job found. absurd (none-some job found) }
 
 -- the next lane has one

@@ -152,29 +152,29 @@ pub deliver-denied : (shape : Shape) (files : List Contents) (at : Turn) (slot f
     → IsDelivery files file bytes → AcceptsWith shape.geometry net bytes config
     → IsDenied shape.limit looked new (record { change = installed_change net config; lane = at.lane; turn = at.number; slot = slot }) error
     → IsDenial checked error r → TurnEnds shape files at (Deliver slot file) old new r
-deliver-denied shape files at slot file checked net bytes config old looked new (Unagreed n) r on agrees then delivered accepted d denial =
+deliver-denied shape files at slot file checked net bytes config old looked new (Unagreed n) r on agrees was_so delivered accepted d denial =
     subst (TurnEnds shape files at (Deliver slot file) old new) (sym denial)
     (turn-alone shape files at (Deliver slot file) old new (unagreed n)
     (answers-unagreed shape.geometry shape.limit files at.lane at.number slot file n old.seen d.control.table.journal new.seen
     (prefix-trans old.seen looked.seen d.control.table.journal on.later d.begins) d.behind d.due.0 d.due.1) refl
     (d.counted ∙ on.made))
-deliver-denied shape files at slot file checked net bytes config old looked new (Stale n) r on agrees then delivered accepted d denial =
+deliver-denied shape files at slot file checked net bytes config old looked new (Stale n) r on agrees was_so delivered accepted d denial =
     let other : spec_at d.control.table.journal slot ≡ Some net → ⊥ =
     λ is. d.due.0.2 (same_Some d.due.0.0 net (sym d.due.0.1 ∙ is)) in
     subst (TurnEnds shape files at (Deliver slot file) old new) (sym denial)
     (turn-alone shape files at (Deliver slot file) old new (stale checked n)
     (answers-stale shape.geometry shape.limit files at.lane at.number slot file checked n net bytes config old.seen
-    looked.seen d.control.table.journal new.seen on.later d.begins d.behind agrees then delivered accepted other d.due.1)
+    looked.seen d.control.table.journal new.seen on.later d.begins d.behind agrees was_so delivered accepted other d.due.1)
     refl (d.counted ∙ on.made))
-deliver-denied shape files at slot file checked net bytes config old looked new (Full n) r on agrees then delivered accepted d denial =
+deliver-denied shape files at slot file checked net bytes config old looked new (Full n) r on agrees was_so delivered accepted d denial =
     subst (TurnEnds shape files at (Deliver slot file) old new) (sym denial)
     (turn-alone shape files at (Deliver slot file) old new (full n)
     (answers-no_room shape.geometry shape.limit files at.lane at.number slot file n net bytes config old.seen
     d.control.table.journal new.seen (prefix-trans old.seen looked.seen d.control.table.journal on.later d.begins) d.behind
     d.due.0 delivered accepted (d.due.1 ∙ d.limit_is) d.due.2) refl (d.counted ∙ on.made))
-deliver-denied shape files at slot file checked net bytes config old looked new Broken r on agrees then delivered accepted d denial =
+deliver-denied shape files at slot file checked net bytes config old looked new Broken r on agrees was_so delivered accepted d denial =
     absurd denial
-deliver-denied shape files at slot file checked net bytes config old looked new NoMemory r on agrees then delivered accepted d denial =
+deliver-denied shape files at slot file checked net bytes config old looked new NoMemory r on agrees was_so delivered accepted d denial =
     absurd denial
 
 -- an accepted configuration is of the fabric that it was checked for, and its network fits the pads

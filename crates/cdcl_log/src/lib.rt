@@ -12,6 +12,8 @@ mod descent;
 mod restarts;
 mod solver;
 mod steps;
+#[cfg(test)]
+mod tests;
 
 pub use search_defs::CdclEnd;
 pub use solver::Solver;

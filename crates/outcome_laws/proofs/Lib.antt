@@ -4,5 +4,6 @@ pub mod Deciding
 pub mod Delivering
 pub mod Ending
 pub mod Placing
+pub mod Producing
 pub mod Specifying
 pub mod Verifying

@@ -24,7 +24,7 @@ use Rattle.outcome_laws.specs.Telling.{AreToldAlike, IsAnsweredBy}
 use Rattle.outcome_laws.proofs.Specifying.{one_net, one_spec_fault, net_not_faulty}
 
 -- the network of a text is a net
-described_net : (design : List ℕ) (net : Network) → HasNetwork design net → IsNet net
+pub described_net : (design : List ℕ) (net : Network) → HasNetwork design net → IsNet net
 described_net design net h = IsNet-built h.design net h.builds.0 (design_of_text design h.design h.reads) h.builds.1
 
 -- the reference mapping of a net is mapped cells
@@ -32,7 +32,7 @@ reference_mapped : (net : Network) (l : MappedValue) → IsNet net → RefMap ne
 reference_mapped net l is_net h = subst AreMapped (sym h.2) (mapping-mapped net h.0 is_net h.1.closed)
 
 -- a net has one answer to what is wanting first on a fabric
-one_over : (net : Network) (g : GeometryValue) (a b : Option Demand) → IsNet net → FirstOver net g a → FirstOver net g b → a ≡ b
+pub one_over : (net : Network) (g : GeometryValue) (a b : Option Demand) → IsNet net → FirstOver net g a → FirstOver net g b → a ≡ b
 one_over net g a b is_net h k =
     let P : MappedValue → Type 0 = λ l. FirstOverOf l g b in
     let same : k.0 ≡ h.0 = reference-unique net k.0 h.0 is_net k.1 h.1 in

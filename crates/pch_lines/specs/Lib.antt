@@ -2,6 +2,7 @@ pub mod Commands
 pub mod FaultLines
 pub mod Files
 pub mod Lines
+pub mod ProduceLines
 pub mod RefusalLines
 pub mod RouteLines
 pub mod ScriptLines

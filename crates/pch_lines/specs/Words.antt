@@ -8,6 +8,7 @@ use Rattle.fabric_defs.specs.declared.kind.CellKind.TheVariants.{FourInputs, Six
 use Rattle.fabric_defs.specs.Geometries.{GeometryValue}
 use Rattle.fabric_defs.specs.declared.limits.TheConstants.{MAX_SIDE, MAX_TRACKS}
 use Rattle.script_defs.specs.declared.limits.TheConstants.{MAX_WORKERS}
+use Rattle.miter_size.specs.declared.limits.TheConstants.{MAX_BUDGET}
 
 -- the words of a command line, without the program's own name
 abbrev pub words_in : List (String Global) → List (List ℕ)
@@ -25,6 +26,8 @@ pub data Form : Type 0 where
   compact : List ℕ → List ℕ → Form
   -- place DESIGN C R T I O OUT
   place : List ℕ → GeometryValue → List ℕ → Form
+  -- produce SPEC DESIGN C R T I O BUDGET OUT
+  produce : List ℕ → List ℕ → GeometryValue → ℕ → List ℕ → Form
 
 -- ---- numbers and fabrics
 
@@ -82,11 +85,31 @@ place_form kind design c (r ∷ t ∷ i ∷ o ∷ []) = None
 place_form kind design c (r ∷ t ∷ i ∷ o ∷ out ∷ []) = place_with design (fabric_in kind c r t i o) out
 place_form kind design c (r ∷ t ∷ i ∷ o ∷ out ∷ more ∷ rest) = None
 
+-- `produce` with these names, where the fabric and the budget are there
+abbrev pub produce_with : List ℕ → List ℕ → Option GeometryValue → Option ℕ → List ℕ → Option Form
+produce_with spec design None budget out = None
+produce_with spec design (Some g) None out = None
+produce_with spec design (Some g) (Some budget) out = Some (produce spec design g budget out)
+
+-- `produce` with two files and the words behind them
+abbrev pub produce_form : CellKind → List ℕ → List ℕ → List (List ℕ) → Option Form
+produce_form kind spec design [] = None
+produce_form kind spec design (c ∷ []) = None
+produce_form kind spec design (c ∷ r ∷ []) = None
+produce_form kind spec design (c ∷ r ∷ t ∷ []) = None
+produce_form kind spec design (c ∷ r ∷ t ∷ i ∷ []) = None
+produce_form kind spec design (c ∷ r ∷ t ∷ i ∷ o ∷ []) = None
+produce_form kind spec design (c ∷ r ∷ t ∷ i ∷ o ∷ budget ∷ []) = None
+produce_form kind spec design (c ∷ r ∷ t ∷ i ∷ o ∷ budget ∷ out ∷ []) =
+    produce_with spec design (fabric_in kind c r t i o) (count_in MAX_BUDGET budget) out
+produce_form kind spec design (c ∷ r ∷ t ∷ i ∷ o ∷ budget ∷ out ∷ more ∷ rest) = None
+
 -- the commands that name a fabric, whose cells have this kind: a word, two words more, and the rest
 abbrev pub form_on : CellKind → (word first second : List ℕ) → List (List ℕ) → Option Form
 form_on kind word first second more =
     if bytes_eq word (codes "verify") then verify_form kind first second more
-    else (if bytes_eq word (codes "place") then place_form kind first second more else None)
+    else (if bytes_eq word (codes "place") then place_form kind first second more
+    else (if bytes_eq word (codes "produce") then produce_form kind first second more else None))
 
 -- the same for all words
 abbrev pub fabric_form : CellKind → List (List ℕ) → Option Form

@@ -41,6 +41,14 @@ pub enum Command<'a> {
         geometry: Geometry,
         out: &'a str,
     },
+    /// `produce SPEC DESIGN C R T I O BUDGET OUT`, where `six` may stand in front
+    Produce {
+        spec: &'a str,
+        design: &'a str,
+        geometry: Geometry,
+        budget: u32,
+        out: &'a str,
+    },
 }
 
 /// A file that is to be loaded.
@@ -111,6 +119,9 @@ impl<'a> Command<'a> {
             }
             Command::Compact { bundle, .. } => Ok(vec![in alloc; NamedFile::bundle(bundle)]?),
             Command::Place { design, .. } => Ok(vec![in alloc; NamedFile::design(design)]?),
+            Command::Produce { spec, design, .. } => {
+                Ok(vec![in alloc; NamedFile::design(spec), NamedFile::design(design)]?)
+            }
         }
     }
 
@@ -119,7 +130,9 @@ impl<'a> Command<'a> {
         ensures { option_map (λ name. name.now) result ≡ out_of (form_seen self.now) }
     {
         match *self {
-            Command::Compact { out, .. } | Command::Place { out, .. } => Some(out),
+            Command::Compact { out, .. }
+            | Command::Place { out, .. }
+            | Command::Produce { out, .. } => Some(out),
             Command::Check { .. } | Command::Verify { .. } | Command::Cnf { .. } => None,
         }
     }

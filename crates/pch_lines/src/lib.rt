@@ -3,8 +3,8 @@
 //! `words` finds the command that words have the form of; `specs/Words` has the forms, and
 //! `specs/Files` which files each command loads and saves. `session_words` finds the session that words
 //! run, by `specs/Sessions`. The other files make one line each from an error, a verdict or a refusal;
-//! `specs/FaultLines`, `specs/ScriptLines` and `specs/RefusalLines` have the same lines as lists of
-//! bytes.
+//! `specs/FaultLines`, `specs/ScriptLines`, `specs/RefusalLines` and `specs/ProduceLines` have the same lines
+//! as lists of bytes.
 #![tactic(auto)]
 
 mod bundle_lines;
@@ -12,6 +12,7 @@ mod command;
 mod design_lines;
 mod formula_lines;
 mod line;
+mod produce_lines;
 mod refusal_lines;
 mod route_lines;
 mod script_lines;
@@ -23,6 +24,7 @@ pub use command::{Command, NamedFile};
 pub use design_lines::spec_line;
 pub use formula_lines::{cnf_line, trace_line};
 pub use line::Line;
+pub use produce_lines::{differs_line, interface_line, spent_line};
 pub use refusal_lines::{refusal_line, verdict_line};
 pub use route_lines::unroutable_line;
 pub use script_lines::script_line;

@@ -1,7 +1,9 @@
 ghost use Rattle.std.specs.Prelude.{◌≡◌, IfOk, decimal};
+ghost use Rattle.script_defs.specs.Printing.{bits_word};
 ghost use Rattle.pch_lines.specs.Lines.{and_word, and_number, ended};
 
-use pch_base::{NoMemory, print_number};
+use pch_base::{Bits, NoMemory, print_number};
+use run_script::push_bits;
 use std::alloc::Global;
 use std::marker::Model;
 
@@ -53,6 +55,14 @@ impl Line {
     {
         self.text.push(b' ')?;
         print_number(u64::from(n), &mut self.text)?;
+        Ok(self)
+    }
+
+    /// The line with the word of some bits more, the first one first; `-` stands for none.
+    pub fn bits(mut self, bits: Bits) -> Result<Line, NoMemory>
+        ensures { IfOk result (λ l. l ≡ and_word self (bits_word bits)) }
+    {
+        push_bits(&mut self.text, bits)?;
         Ok(self)
     }
 

@@ -1,12 +1,13 @@
 //! From words to the command that they have the form of.
 
 ghost use Rattle.std.specs.Prelude.{◌≡◌, ◌≤◌, None, Some, MatchOption, IfSome};
-ghost use Rattle.pch_lines.specs.Words.{words_in, form_of, plain_form, file_form, fabric_form, form_on, verify_form, count_in, fabric_in, verify_with, place_form, place_with};
-ghost use Rattle.pch_lines.specs.Commands.{form_seen, HasWorkers};
+ghost use Rattle.pch_lines.specs.Words.{words_in, form_of, plain_form, file_form, fabric_form, form_on, verify_form, count_in, fabric_in, verify_with, place_form, place_with, produce_form, produce_with};
+ghost use Rattle.pch_lines.specs.Commands.{form_seen, IsWithinLimits};
 
 use crate::command::Command;
 use fabric::Geometry;
 use fabric_defs::{CellKind, MAX_SIDE, MAX_TRACKS};
+use miter_size::MAX_BUDGET;
 use pch_base::read_number;
 use script_defs::MAX_WORKERS;
 
@@ -15,7 +16,7 @@ use script_defs::MAX_WORKERS;
 pub fn command_of(words: &[String]) -> Option<Command<'_>>
     ensures command { MatchOption result (form_of (words_in words.now) ≡ None)
         (λ c. form_of (words_in words.now) ≡ Some (form_seen c)) }
-    ensures workers { IfSome result HasWorkers }
+    ensures limits { IfSome result IsWithinLimits }
 {
     match words {
         [] => None,
@@ -28,7 +29,7 @@ pub fn command_of(words: &[String]) -> Option<Command<'_>>
 fn plain_command(words: &[String]) -> Option<Command<'_>>
     ensures command { MatchOption result (plain_form (words_in words.now) ≡ None)
         (λ c. plain_form (words_in words.now) ≡ Some (form_seen c)) }
-    ensures workers { IfSome result HasWorkers }
+    ensures limits { IfSome result IsWithinLimits }
 {
     match words {
         [word, first, second] => file_command(word.as_str(), first.as_str(), second.as_str()),
@@ -40,7 +41,7 @@ fn plain_command(words: &[String]) -> Option<Command<'_>>
 fn file_command<'a>(word: &str, first: &'a str, second: &'a str) -> Option<Command<'a>>
     ensures command { MatchOption result (file_form word.now first.now second.now ≡ None)
         (λ c. file_form word.now first.now second.now ≡ Some (form_seen c)) }
-    ensures workers { IfSome result HasWorkers }
+    ensures limits { IfSome result IsWithinLimits }
 {
     match word {
         "check" => Some(Command::Check {
@@ -63,7 +64,7 @@ fn file_command<'a>(word: &str, first: &'a str, second: &'a str) -> Option<Comma
 fn fabric_command(kind: CellKind, words: &[String]) -> Option<Command<'_>>
     ensures command { MatchOption result (fabric_form kind (words_in words.now) ≡ None)
         (λ c. fabric_form kind (words_in words.now) ≡ Some (form_seen c)) }
-    ensures workers { IfSome result HasWorkers }
+    ensures limits { IfSome result IsWithinLimits }
 {
     let [word, first, second, more @ ..] = words else {
         return None;
@@ -82,12 +83,14 @@ fn command_on<'a>(
     ensures command { MatchOption result
         (form_on kind word.now first.now second.now (words_in more.now) ≡ None)
         (λ c. form_on kind word.now first.now second.now (words_in more.now) ≡ Some (form_seen c)) }
-    ensures workers { IfSome result HasWorkers }
+    ensures limits { IfSome result IsWithinLimits }
 {
     if word == "verify" {
         verify_command(kind, first, second, more)
     } else if word == "place" {
         place_command(kind, first, second, more)
+    } else if word == "produce" {
+        produce_command(kind, first, second, more)
     } else {
         None
     }
@@ -103,7 +106,7 @@ fn verify_command<'a>(
     ensures command { MatchOption result
         (verify_form kind spec.now bundle.now (words_in words.now) ≡ None)
         (λ c. verify_form kind spec.now bundle.now (words_in words.now) ≡ Some (form_seen c)) }
-    ensures workers { IfSome result HasWorkers }
+    ensures limits { IfSome result IsWithinLimits }
 {
     let [c, r, t, i, o, workers] = words else {
         return None;
@@ -130,7 +133,7 @@ fn verify_of<'a>(
     requires { IfSome workers (λ n. (1 ≤ n) × (n ≤ MAX_WORKERS)) }
     ensures command { MatchOption result (verify_with spec.now bundle.now geometry workers ≡ None)
         (λ c. verify_with spec.now bundle.now geometry workers ≡ Some (form_seen c)) }
-    ensures workers { IfSome result HasWorkers }
+    ensures limits { IfSome result IsWithinLimits }
 {
     Some(Command::Verify {
         spec,
@@ -150,7 +153,7 @@ fn place_command<'a>(
     ensures command { MatchOption result
         (place_form kind design.now c.now (words_in words.now) ≡ None)
         (λ found. place_form kind design.now c.now (words_in words.now) ≡ Some (form_seen found)) }
-    ensures workers { IfSome result HasWorkers }
+    ensures limits { IfSome result IsWithinLimits }
 {
     let [r, t, i, o, out] = words else {
         return None;
@@ -163,11 +166,61 @@ fn place_command<'a>(
 fn place_of<'a>(design: &'a str, geometry: Option<Geometry>, out: &'a str) -> Option<Command<'a>>
     ensures command { MatchOption result (place_with design.now geometry out.now ≡ None)
         (λ c. place_with design.now geometry out.now ≡ Some (form_seen c)) }
-    ensures workers { IfSome result HasWorkers }
+    ensures limits { IfSome result IsWithinLimits }
 {
     Some(Command::Place {
         design,
         geometry: geometry?,
+        out,
+    })
+}
+
+/// `produce` with two files and the words behind them.
+fn produce_command<'a>(
+    kind: CellKind,
+    spec: &'a str,
+    design: &'a str,
+    words: &'a [String],
+) -> Option<Command<'a>>
+    ensures command { MatchOption result
+        (produce_form kind spec.now design.now (words_in words.now) ≡ None)
+        (λ c. produce_form kind spec.now design.now (words_in words.now) ≡ Some (form_seen c)) }
+    ensures limits { IfSome result IsWithinLimits }
+{
+    let [c, r, t, i, o, budget, out] = words else {
+        return None;
+    };
+    let geometry = fabric_of(
+        kind,
+        c.as_str(),
+        r.as_str(),
+        t.as_str(),
+        i.as_str(),
+        o.as_str(),
+    );
+    let budget = count_of(budget.as_str(), MAX_BUDGET);
+    produce_of(spec, design, geometry, budget, out.as_str())
+}
+
+/// `produce` with these names, where the fabric and the budget are there.
+fn produce_of<'a>(
+    spec: &'a str,
+    design: &'a str,
+    geometry: Option<Geometry>,
+    budget: Option<u32>,
+    out: &'a str,
+) -> Option<Command<'a>>
+    requires { IfSome budget (λ n. (1 ≤ n) × (n ≤ MAX_BUDGET)) }
+    ensures command { MatchOption result
+        (produce_with spec.now design.now geometry budget out.now ≡ None)
+        (λ c. produce_with spec.now design.now geometry budget out.now ≡ Some (form_seen c)) }
+    ensures limits { IfSome result IsWithinLimits }
+{
+    Some(Command::Produce {
+        spec,
+        design,
+        geometry: geometry?,
+        budget: budget?,
         out,
     })
 }

@@ -1,8 +1,10 @@
 pub mod CheckLemmas
 pub mod CnfLemmas
 pub mod CompactLemmas
+pub mod DueLemmas
 pub mod LoadLemmas
 pub mod PlaceLemmas
+pub mod ProduceLemmas
 pub mod RunLemmas
 pub mod SessionLemmas
 pub mod VerifyLemmas

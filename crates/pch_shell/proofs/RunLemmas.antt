@@ -1,239 +1,17 @@
 -- What follows from how a run ends.
 use Rattle.std.proofs.Common.{◌≡◌, ◌≢◌, ◌⊎◌, inl, inr, ℕ, ◌<◌, ◌≤◌, List, [], ◌∷◌, length, Option, Some, None, IsSomeAnd, Result, Ok, Err, IfOk, OnErr, refl, sym, ap, subst, ◌∙◌, arith}
-use Rattle.blif_defs.specs.declared.mark.TheConstants.{MAX_BYTES}
-use Rattle.fabric_defs.specs.Geometries.{GeometryValue}
 use Rattle.pch_io.specs.declared.store.LoadFail.{LoadFail}
 use Rattle.pch_io.specs.declared.store.LoadFail.TheVariants as fails
 use Rattle.pch_io.specs.Outside.{Files, Rose, Loads, LoadCause, Saves, Spoils, Appends}
-use Rattle.pch_lines.specs.Words.{Form, form_of, check, verify, cnf, compact, place}
+use Rattle.pch_lines.specs.Words.{Form, form_of}
 use Rattle.pch_lines.specs.Files.{FileValue, files_of, out_of}
 use Rattle.pch_shell.specs.Outcomes.{Outcome, not_stored}
 use Rattle.pch_shell.specs.Loading.{AreLoaded, IsNotLoaded}
-use Rattle.pch_shell.specs.Check.{Refuted, CheckDue}
-use Rattle.pch_shell.specs.Verify.{IsAccepted, VerifyDue}
-use Rattle.pch_shell.specs.Cnf.{CnfDue}
-use Rattle.pch_shell.specs.Compact.{CompactDue}
-use Rattle.pch_shell.specs.Place.{PlaceDue}
-use Rattle.pch_shell.specs.Due.{OfOne, OfTwo, FilesDue, Holds}
-use Rattle.pch_shell.specs.Runs.{StoreState, SinkState, OnlyOut, AreSaved, NotSaved, AfterSave, Tells, WordsTell, out_named, Put, Leaves, Ends, NamesFirstOver, HoldsOut, Shows, StoreCause, IsDecided, Completes, Runs}
+use Rattle.pch_shell.specs.Due.{FilesDue, Differ, NeedMore}
+use Rattle.pch_shell.specs.Runs.{StoreState, SinkState, OnlyOut, AreSaved, NotSaved, AfterSave, Tells, WordsTell, out_named, Put, Leaves, Ends, HoldsOut, Shows, Says, SavesLog, StoreCause, IsDecided, Completes, Runs}
 use Rattle.pch_shell.specs.declared.status.Status.{Status}
-use Rattle.pch_shell.specs.declared.status.Status.TheVariants.{Done, NotAccepted, Words, Store, Sink, Memory, Unroutable, BadInput}
-
--- ---- the statuses of what a command comes to
-
--- the outcome says that something is done, refused or badly formed
-abbrev IsOfFiles : Outcome → Type 0
-IsOfFiles o = (o.status ≡ Done) ⊎ ((o.status ≡ NotAccepted) ⊎ (o.status ≡ BadInput))
-
--- or else that a design doesn't fit a fabric
-abbrev IsOfWork : Outcome → Type 0
-IsOfWork o = (o.status ≡ Unroutable) ⊎ IsOfFiles o
-
--- equal outcomes have one status
-pub status_of : (o p : Outcome) → o ≡ p → o.status ≡ p.status
-status_of o p e = ap (λ (x : Outcome). x.status) e
-
--- what `check` comes to is of its files
-check_files : (cn tn formula trace : List ℕ) (o : Outcome) → CheckDue cn tn formula trace o → IsOfFiles o
-check_files cn tn formula trace o (inl h) = inl (status_of o _ h.1)
-check_files cn tn formula trace o (inr (inl h)) = inr (inl (status_of o _ h.2))
-check_files cn tn formula trace o (inr (inr (inl h))) = inr (inr (status_of o _ h.2))
-check_files cn tn formula trace o (inr (inr (inr h))) = inr (inr (status_of o _ h.2))
-
--- what `verify` comes to is of its files
-verify_files : (sn : List ℕ) (g : GeometryValue) (spec bundle : List ℕ) (o : Outcome) → VerifyDue sn g spec bundle o → IsOfFiles o
-verify_files sn g spec bundle o (inl h) = inl (status_of o _ h.1)
-verify_files sn g spec bundle o (inr (inl h)) = inr (inl (status_of o _ h.2))
-verify_files sn g spec bundle o (inr (inr h)) = inr (inr (status_of o _ h.2))
-
--- what `cnf` comes to is of its files
-cnf_files : (sn bn spec bundle : List ℕ) (o : Outcome) → CnfDue sn bn spec bundle o → IsOfFiles o
-cnf_files sn bn spec bundle o (inl h) = inl (status_of o _ h.2)
-cnf_files sn bn spec bundle o (inr (inl h)) = inr (inr (status_of o _ h.2))
-cnf_files sn bn spec bundle o (inr (inr h)) = inr (inr (status_of o _ h.2))
-
--- what `compact` comes to is of its files
-compact_files : (name bytes : List ℕ) (o : Outcome) → CompactDue name bytes o → IsOfFiles o
-compact_files name bytes o (inl h) = inl (status_of o _ h.2)
-compact_files name bytes o (inr (inl h)) = inr (inr (status_of o _ h.2))
-compact_files name bytes o (inr (inr (inl h))) = inr (inr (status_of o _ h.2))
-compact_files name bytes o (inr (inr (inr h))) = inr (inr (status_of o _ h.2))
-
--- what `place` comes to is of its work
-place_work : (name : List ℕ) (g : GeometryValue) (design : List ℕ) (o : Outcome) → PlaceDue name g design o → IsOfWork o
-place_work name g design o (inl h) = inr (inl (status_of o _ h.2))
-place_work name g design o (inr (inl h)) = inl (status_of o _ h.2)
-place_work name g design o (inr (inr h)) = inr (inr (inr (status_of o _ h.2)))
-
--- what is due for one file is due for that file
-of_one : (files : List (List ℕ)) (P : List ℕ → Type 0) (Q : Type 0) → OfOne files P → ((a : List ℕ) → P a → Q) → Q
-of_one [] P Q h k = absurd h
-of_one (a ∷ []) P Q h k = k a h
-of_one (a ∷ b ∷ rest) P Q h k = absurd h
-
--- what is due for two files is due for those two
-of_two : (files : List (List ℕ)) (P : List ℕ → List ℕ → Type 0) (Q : Type 0) → OfTwo files P
-    → ((a b : List ℕ) → P a b → Q) → Q
-of_two [] P Q h k = absurd h
-of_two (a ∷ []) P Q h k = absurd h
-of_two (a ∷ b ∷ []) P Q h k = k a b h
-of_two (a ∷ b ∷ c ∷ rest) P Q h k = absurd h
-
--- what a command comes to for the bytes of its files is of its work
-due_work : (form : Form) (files : List (List ℕ)) (o : Outcome) → FilesDue form files o → IsOfWork o
-due_work (check cn tn) files o h = of_two files _ _ h (λ a b due. inr (check_files cn tn a b o due))
-due_work (verify sn bn g workers) files o h = of_two files _ _ h (λ a b due. inr (verify_files sn g a b o due))
-due_work (cnf sn bn) files o h = of_two files _ _ h (λ a b due. inr (cnf_files sn bn a b o due))
-due_work (compact bn out) files o h = of_one files _ _ h (λ a due. inr (compact_files bn a o due))
-due_work (place dn g out) files o h = of_one files _ _ h (λ a due. place_work dn g a o due)
-
--- an outcome of the files has no other status
-files_not : (o : Outcome) (s : Status) → IsOfFiles o → s ≢ Done → s ≢ NotAccepted → s ≢ BadInput → o.status ≡ s → ⊥
-files_not o s (inl e) a b c is = a (sym is ∙ e)
-files_not o s (inr (inl e)) a b c is = b (sym is ∙ e)
-files_not o s (inr (inr e)) a b c is = c (sym is ∙ e)
-
--- an outcome of the work has none of the statuses that the outside gives
-work_not : (o : Outcome) (s : Status) → IsOfWork o → s ≢ Unroutable → s ≢ Done → s ≢ NotAccepted → s ≢ BadInput
-    → o.status ≡ s → ⊥
-work_not o s (inl e) u a b c is = u (sym is ∙ e)
-work_not o s (inr e) u a b c is = files_not o s e a b c is
-
--- ---- what status 0 shows
-
--- what is due for two files may be replaced by what follows from it
-map_two : (files : List (List ℕ)) (P Q : List ℕ → List ℕ → Type 0) → OfTwo files P
-    → ((a b : List ℕ) → P a b → Q a b) → OfTwo files Q
-map_two [] P Q h k = absurd h
-map_two (a ∷ []) P Q h k = absurd h
-map_two (a ∷ b ∷ []) P Q h k = k a b h
-map_two (a ∷ b ∷ c ∷ rest) P Q h k = absurd h
-
--- an outcome with another status isn't done
-not_done : (o : Outcome) (s : Status) → o.status ≡ s → s ≢ Done → o.status ≡ Done → ⊥
-not_done o s is other done = other (sym is ∙ done)
-
--- where `check` is done, the trace refutes the formula
-check_shows : (cn tn formula trace : List ℕ) (o : Outcome) → o.status ≡ Done → CheckDue cn tn formula trace o
-    → Refuted formula trace
-check_shows cn tn formula trace o done (inl h) = h.0
-check_shows cn tn formula trace o done (inr (inl h)) = absurd (not_done o NotAccepted (status_of o _ h.2) (λ e. cc) done)
-check_shows cn tn formula trace o done (inr (inr (inl h))) = absurd (not_done o BadInput (status_of o _ h.2) (λ e. cc) done)
-check_shows cn tn formula trace o done (inr (inr (inr h))) = absurd (not_done o BadInput (status_of o _ h.2) (λ e. cc) done)
-
--- where `verify` is done, the bundle is accepted
-verify_shows : (sn : List ℕ) (g : GeometryValue) (spec bundle : List ℕ) (o : Outcome) → o.status ≡ Done → VerifyDue sn g spec bundle o
-    → IsAccepted g spec bundle
-verify_shows sn g spec bundle o done (inl h) = h.0
-verify_shows sn g spec bundle o done (inr (inl h)) = absurd (not_done o NotAccepted (status_of o _ h.2) (λ e. cc) done)
-verify_shows sn g spec bundle o done (inr (inr h)) = absurd (not_done o BadInput (status_of o _ h.2) (λ e. cc) done)
-
--- the saved file has the bytes that were saved
-holds_saved : (old new : Option Files) (name bytes : List ℕ) → Saves old new name bytes → HoldsOut (Some name) new bytes
-holds_saved None None name bytes h = tt
-holds_saved None (Some f) name bytes h = absurd h
-holds_saved (Some f) None name bytes h = absurd h
-holds_saved (Some f) (Some k) name bytes h = h.0
-
--- some bytes are in the file that the command saves, and what status 0 shows holds of them
-abbrev ShowsSaved : Form → List (List ℕ) → Option Files → Type 0
-ShowsSaved form files new = (saved : List ℕ) × HoldsOut (out_of form) new saved × Holds form files saved
-
--- where the bytes of an outcome are saved, the file has them
-saved_by : (o : Outcome) (short text : List ℕ) (out : List ℕ) (old new : StoreState)
-    → o ≡ record { status = Done; text = text; saved = Some short } → AreSaved (Some out) o.saved old new
-    → HoldsOut (Some out) new.files short
-saved_by o short text out old new is saved =
-    let named : AreSaved (Some out) (Some short) old new =
-    subst (λ (x : Option (List ℕ)). AreSaved (Some out) x old new) (ap (λ (x : Outcome). x.saved) is) saved in
-    holds_saved old.files new.files out short named.0
-
--- where `compact` is done, the file has the compacted bundle
-compact_shows : (name bytes out : List ℕ) (o : Outcome) (old new : StoreState) → o.status ≡ Done → CompactDue name bytes o
-    → AreSaved (Some out) o.saved old new → ShowsSaved (compact name out) (bytes ∷ []) new.files
-compact_shows name bytes out o old new done (inl (short, is, due)) saved =
-    (short, saved_by o short _ out old new due saved, is)
-compact_shows name bytes out o old new done (inr (inl h)) saved = absurd (not_done o BadInput (status_of o _ h.2) (λ e. cc) done)
-compact_shows name bytes out o old new done (inr (inr (inl h))) saved = absurd (not_done o BadInput (status_of o _ h.2) (λ e. cc) done)
-compact_shows name bytes out o old new done (inr (inr (inr h))) saved = absurd (not_done o BadInput (status_of o _ h.2) (λ e. cc) done)
-
--- where `place` is done, the file has a configuration that places the design
-place_shows : (name : List ℕ) (g : GeometryValue) (design out : List ℕ) (o : Outcome) (old new : StoreState) → o.status ≡ Done
-    → PlaceDue name g design o → AreSaved (Some out) o.saved old new → ShowsSaved (place name g out) (design ∷ []) new.files
-place_shows name g design out o old new done (inl (bytes, is, due)) saved =
-    (bytes, saved_by o bytes _ out old new due saved, is)
-place_shows name g design out o old new done (inr (inl h)) saved = absurd (not_done o Unroutable (status_of o _ h.2) (λ e. cc) done)
-place_shows name g design out o old new done (inr (inr h)) saved = absurd (not_done o BadInput (status_of o _ h.2) (λ e. cc) done)
-
--- where a command is done, what status 0 shows holds of what is saved
-done_shows : (form : Form) (files : List (List ℕ)) (o : Outcome) (old new : StoreState) → o.status ≡ Done → FilesDue form files o
-    → AreSaved (out_of form) o.saved old new → ShowsSaved form files new.files
-done_shows (check cn tn) files o old new done h saved =
-    ([], tt, map_two files _ _ h (λ a b due. check_shows cn tn a b o done due))
-done_shows (verify sn bn g workers) files o old new done h saved =
-    ([], tt, map_two files _ _ h (λ a b due. verify_shows sn g a b o done due))
-done_shows (cnf sn bn) files o old new done h saved = (
-  [],
-  tt,
-  map_two files _ _ h (λ a b due. elim due [
-    | inl m ↦ (m.0, m.1)
-    | inr (inl e) ↦ absurd (not_done o BadInput (status_of o _ e.2) (λ q. cc) done)
-    | inr (inr e) ↦ absurd (not_done o BadInput (status_of o _ e.2) (λ q. cc) done)
-  ]),
-)
-done_shows (compact bn out) [] o old new done h saved = absurd h
-done_shows (compact bn out) (bytes ∷ []) o old new done h saved = compact_shows bn bytes out o old new done h saved
-done_shows (compact bn out) (bytes ∷ b ∷ rest) o old new done h saved = absurd h
-done_shows (place dn g out) [] o old new done h saved = absurd h
-done_shows (place dn g out) (design ∷ []) o old new done h saved = place_shows dn g design out o old new done h saved
-done_shows (place dn g out) (design ∷ b ∷ rest) o old new done h saved = absurd h
-
--- ---- what status 7 shows
-
--- what is of the files isn't unroutable
-files_fit : (o : Outcome) → IsOfFiles o → o.status ≡ Unroutable → ⊥
-files_fit o h is = files_not o Unroutable h (λ e. cc) (λ e. cc) (λ e. cc) is
-
--- where `place` finds too little of a resource, the text names it and nothing is saved
-place_over : (name : List ℕ) (g : GeometryValue) (design out : List ℕ) (o : Outcome) (old new : StoreState) (held now : Option (List ℕ))
-    → o.status ≡ Unroutable → PlaceDue name g design o → Loads old.files name MAX_BYTES design → AreSaved (Some out) o.saved old new
-    → Appends held now o.text → NamesFirstOver (Some (place name g out)) old.files new.files held now
-place_over name g design out o old new held now is (inl h) loaded saved put =
-    absurd (let e : Done ≡ Unroutable = sym (status_of o _ h.2) ∙ is in cc)
-place_over name g design out o old new held now is (inr (inl (over, first, due))) loaded saved put =
-    let kept : AreSaved (Some out) None old new =
-    subst (λ (x : Option (List ℕ)). AreSaved (Some out) x old new) (ap (λ (x : Outcome). x.saved) due) saved in
-    record {
-      design_name = name;
-      fabric = g;
-      out = out;
-      is_place = refl;
-      design = design;
-      loaded = loaded;
-      over = over;
-      first = first;
-      told = subst (λ (t : List ℕ). Appends held now t) (ap (λ (x : Outcome). x.text) due) put;
-      unchanged = ap (λ (s : StoreState). s.files) kept;
-    }
-place_over name g design out o old new held now is (inr (inr h)) loaded saved put =
-    absurd (let e : BadInput ≡ Unroutable = sym (status_of o _ h.2) ∙ is in cc)
-
--- no other command finds too little of a resource
-due_over : (form : Form) (files : List (List ℕ)) (o : Outcome) (old new : StoreState) (held now : Option (List ℕ))
-    → o.status ≡ Unroutable → FilesDue form files o → AreLoaded old.files (files_of form) files → AreSaved (out_of form) o.saved old new
-    → Appends held now o.text → NamesFirstOver (Some form) old.files new.files held now
-due_over (check cn tn) files o old new held now is h loaded saved put =
-    absurd (files_fit o (of_two files _ _ h (λ a b due. check_files cn tn a b o due)) is)
-due_over (verify sn bn g workers) files o old new held now is h loaded saved put =
-    absurd (files_fit o (of_two files _ _ h (λ a b due. verify_files sn g a b o due)) is)
-due_over (cnf sn bn) files o old new held now is h loaded saved put =
-    absurd (files_fit o (of_two files _ _ h (λ a b due. cnf_files sn bn a b o due)) is)
-due_over (compact bn out) files o old new held now is h loaded saved put =
-    absurd (files_fit o (of_one files _ _ h (λ a due. compact_files bn a o due)) is)
-due_over (place dn g out) [] o old new held now is h loaded saved put = absurd h
-due_over (place dn g out) (design ∷ []) o old new held now is h loaded saved put =
-    place_over dn g design out o old new held now is h loaded.0 saved put
-due_over (place dn g out) (design ∷ b ∷ rest) o old new held now is h loaded saved put = absurd h
+use Rattle.pch_shell.specs.declared.status.Status.TheVariants.{Done, Words, Store, Sink, Memory, Differs, Unroutable, Spent}
+use Rattle.pch_shell.proofs.DueLemmas.{status_of, text_of, IsOfWork, due_work, done_shows, due_differ, due_over, due_spent}
 
 -- ---- files
 
@@ -286,8 +64,7 @@ told_not_sink : (form : Option Form) (old new : StoreState) (told : Outcome) →
 told_not_sink None old new told h is = let e : Words ≡ Sink = sym (status_of told _ h.0) ∙ is in cc
 told_not_sink (Some form) old new told (inl w) is =
     elim w.saved [
-      | inl s ↦ work_not w.outcome Sink (due_work form w.files w.outcome w.due) (λ e. cc) (λ e. cc) (λ e. cc) (λ e. cc)
-          (sym (status_of told w.outcome s.1) ∙ is)
+      | inl s ↦ subst IsOfWork (sym (status_of told w.outcome s.1) ∙ is) (due_work form w.files w.outcome w.due)
       | inr s ↦ absurd (let e : Store ≡ Sink = sym (status_of told _ s.3) ∙ is in cc)
     ]
 told_not_sink (Some form) old new told (inr s) is = let e : Store ≡ Sink = sym (status_of told _ s.is_told) ∙ is in cc
@@ -365,29 +142,71 @@ told_shows (Some form) old new told (inl w) done =
     ]
 told_shows (Some form) old new told (inr s) done = absurd (let e : Store ≡ Done = sym (status_of told _ s.is_told) ∙ done in cc)
 
--- where status 7 is told and written, the text names the first resource that is over
-told_over : (form : Option Form) (old new : StoreState) (held now : Option (List ℕ)) (told : Outcome) → WordsTell form old new told
-    → told.status ≡ Unroutable → Appends held now told.text → NamesFirstOver form old.files new.files held now
-told_over None old new held now told h is put = absurd (let e : Words ≡ Unroutable = sym (status_of told _ h.0) ∙ is in cc)
-told_over (Some form) old new held now told (inl w) is put =
-    elim w.saved [
-      | inl s ↦ due_over form w.files w.outcome old new held now (sym (status_of told w.outcome s.1) ∙ is) w.due w.loaded s.0
-          (subst (λ (t : List ℕ). Appends held now t) (ap (λ (x : Outcome). x.text) s.1) put)
-      | inr s ↦ absurd (let e : Store ≡ Unroutable = sym (status_of told _ s.3) ∙ is in cc)
-    ]
-told_over (Some form) old new held now told (inr s) is put =
-    absurd (let e : Store ≡ Unroutable = sym (status_of told _ s.is_told) ∙ is in cc)
+-- files that nothing was saved in stay
+nothing_saved : (out saved : Option (List ℕ)) (old new : StoreState) → saved ≡ None → AreSaved out saved old new → new.files ≡ old.files
+nothing_saved None saved old new none h = files_of_state old new h
+nothing_saved (Some name) None old new none h = files_of_state old new h
+nothing_saved (Some name) (Some bytes) old new none h = cc
 
--- so it is where a run ends with status 7
-ends_over : (form : Option Form) (old new : StoreState) (before after : SinkState) (status : Status) → status ≡ Unroutable
-    → Ends form old new before after status → NamesFirstOver form old.files new.files before.held after.held
-ends_over form old new before after status is (inl w) = absurd (let e : Memory ≡ Unroutable = sym w.memory ∙ is in cc)
-ends_over form old new before after status is (inr (told, tells, inl put)) =
-    told_over form old new before.held after.held told tells (sym put.0 ∙ is) put.1
-ends_over form old new before after status is (inr (told, tells, inr (inl put))) =
-    absurd (let e : Sink ≡ Unroutable = sym put.0 ∙ is in cc)
-ends_over form old new before after status is (inr (told, tells, inr (inr put))) =
-    absurd (let e : Memory ≡ Unroutable = sym put.0 ∙ is in cc)
+-- a status of the work is told of files that were all loaded, and what was due is saved
+told_of_work : (form : Form) (old new : StoreState) (told : Outcome) (s : Status) → IsOfWork s → Tells form old new told → told.status ≡ s
+    → (files : List (List ℕ)) × AreLoaded old.files (files_of form) files × FilesDue form files told
+    × AreSaved (out_of form) told.saved old new
+told_of_work form old new told s work (inl w) is =
+    elim w.saved [
+      | inl k ↦ (
+        w.files,
+        w.loaded,
+        subst (FilesDue form w.files) (sym k.1) w.due,
+        subst (λ (o : Outcome). AreSaved (out_of form) o.saved old new) (sym k.1) k.0,
+      )
+      | inr k ↦ absurd (subst IsOfWork (sym is ∙ status_of told _ k.3) work)
+    ]
+told_of_work form old new told s work (inr k) is = absurd (subst IsOfWork (sym is ∙ status_of told _ k.is_told) work)
+
+-- where nothing is saved with a status of the work, the text says what it says of the files
+told_says : (P : Form → List (List ℕ) → List ℕ → Type 0) (s : Status) → IsOfWork s
+    → ((f : Form) (files : List (List ℕ)) (o : Outcome) → o.status ≡ s → FilesDue f files o → P f files o.text × (o.saved ≡ None))
+    → (form : Option Form) (old new : StoreState) (held now : Option (List ℕ)) (told : Outcome) → WordsTell form old new told
+    → told.status ≡ s → Appends held now told.text → Says P form old.files new.files held now
+told_says P s work due None old new held now told h is put = subst IsOfWork (sym is ∙ status_of told _ h.0) work
+told_says P s work due (Some form) old new held now told h is put =
+    let at = told_of_work form old new told s work h is in
+    let found = due form at.0 told is at.2 in
+    (at.0, at.1, told.text, found.0, put, nothing_saved (out_of form) told.saved old new found.1 at.3)
+
+-- so it is where a run ends with that status
+ends_say : (P : Form → List (List ℕ) → List ℕ → Type 0) (s : Status) → IsOfWork s
+    → ((f : Form) (files : List (List ℕ)) (o : Outcome) → o.status ≡ s → FilesDue f files o → P f files o.text × (o.saved ≡ None))
+    → (form : Option Form) (old new : StoreState) (before after : SinkState) (status : Status) → status ≡ s
+    → Ends form old new before after status → Says P form old.files new.files before.held after.held
+ends_say P s work due form old new before after status is (inl w) = absurd (subst IsOfWork (sym is ∙ w.memory) work)
+ends_say P s work due form old new before after status is (inr (told, tells, inl put)) =
+    told_says P s work due form old new before.held after.held told tells (sym put.0 ∙ is) put.1
+ends_say P s work due form old new before after status is (inr (told, tells, inr (inl put))) =
+    absurd (subst IsOfWork (sym is ∙ put.0) work)
+ends_say P s work due form old new before after status is (inr (told, tells, inr (inr put))) =
+    absurd (subst IsOfWork (sym is ∙ put.0) work)
+
+-- where status 8 is told and written, the log is saved
+told_spent : (form : Option Form) (old new : StoreState) (held now : Option (List ℕ)) (told : Outcome) → WordsTell form old new told
+    → told.status ≡ Spent → Appends held now told.text → SavesLog form old.files new.files held now
+told_spent None old new held now told h is put = absurd (let e : Words ≡ Spent = sym (status_of told _ h.0) ∙ is in cc)
+told_spent (Some form) old new held now told h is put =
+    let at = told_of_work form old new told Spent tt h is in
+    let found = due_spent form at.0 told old new is at.2 at.3 in
+    (at.0, at.1, found.0, found.1, told.text, found.2, put)
+
+-- so it is where a run ends with status 8
+ends_spent : (form : Option Form) (old new : StoreState) (before after : SinkState) (status : Status) → status ≡ Spent
+    → Ends form old new before after status → SavesLog form old.files new.files before.held after.held
+ends_spent form old new before after status is (inl w) = absurd (let e : Memory ≡ Spent = sym w.memory ∙ is in cc)
+ends_spent form old new before after status is (inr (told, tells, inl put)) =
+    told_spent form old new before.held after.held told tells (sym put.0 ∙ is) put.1
+ends_spent form old new before after status is (inr (told, tells, inr (inl put))) =
+    absurd (let e : Sink ≡ Spent = sym put.0 ∙ is in cc)
+ends_spent form old new before after status is (inr (told, tells, inr (inr put))) =
+    absurd (let e : Memory ≡ Spent = sym put.0 ∙ is in cc)
 
 -- the status of words comes with no form alone
 told_words : (form : Option Form) (old new : StoreState) (told : Outcome) → WordsTell form old new told → told.status ≡ Words
@@ -395,8 +214,7 @@ told_words : (form : Option Form) (old new : StoreState) (told : Outcome) → Wo
 told_words None old new told h is = refl
 told_words (Some form) old new told (inl w) is =
     elim w.saved [
-      | inl s ↦ absurd (work_not w.outcome Words (due_work form w.files w.outcome w.due) (λ e. cc) (λ e. cc) (λ e. cc) (λ e. cc)
-          (sym (status_of told w.outcome s.1) ∙ is))
+      | inl s ↦ absurd (subst IsOfWork (sym (status_of told w.outcome s.1) ∙ is) (due_work form w.files w.outcome w.due))
       | inr s ↦ absurd (let e : Store ≡ Words = sym (status_of told _ s.3) ∙ is in cc)
     ]
 told_words (Some form) old new told (inr s) is = absurd (let e : Store ≡ Words = sym (status_of told _ s.is_told) ∙ is in cc)
@@ -407,8 +225,7 @@ told_store : (form : Option Form) (old new : StoreState) (told : Outcome) → Wo
 told_store None old new told h is = let e : Words ≡ Store = sym (status_of told _ h.0) ∙ is in cc
 told_store (Some form) old new told (inl w) is =
     elim w.saved [
-      | inl s ↦ absurd (work_not w.outcome Store (due_work form w.files w.outcome w.due) (λ e. cc) (λ e. cc) (λ e. cc) (λ e. cc)
-          (sym (status_of told w.outcome s.1) ∙ is))
+      | inl s ↦ absurd (subst IsOfWork (sym (status_of told w.outcome s.1) ∙ is) (due_work form w.files w.outcome w.due))
       | inr s ↦ inr (s.1, s.2)
     ]
 told_store (Some form) old new told (inr s) is = inl (s.name, s.fail, s.real, s.not_loaded)
@@ -482,7 +299,9 @@ runs_of words old new before after status ends = record {
   shows = λ is. let at = told_of (form_of words) old new before after status (λ e. let k : Done ≡ Sink = sym is ∙ e in cc)
       (λ e. let k : Done ≡ Memory = sym is ∙ e in cc) ends in
       told_shows (form_of words) old new at.0 at.1 (at.2 ∙ is);
-  over = λ is. ends_over (form_of words) old new before after status is ends;
+  differs = λ is. ends_say Differ Differs tt due_differ (form_of words) old new before after status is ends;
+  over = λ is. ends_say NeedMore Unroutable tt due_over (form_of words) old new before after status is ends;
+  spent = λ is. ends_spent (form_of words) old new before after status is ends;
   words_cause = λ is. let at = told_of (form_of words) old new before after status (λ e. let k : Words ≡ Sink = sym is ∙ e in cc)
       (λ e. let k : Words ≡ Memory = sym is ∙ e in cc) ends in
       told_words (form_of words) old new at.0 at.1 (at.2 ∙ is);

@@ -38,7 +38,8 @@ use Rattle.pch_shell.specs.Session.{on_cells, HasScript, IsFaultyScript, HasTran
 use Rattle.pch_shell.specs.SessionRuns.{SessionEnds, WritesTranscript, SessionStoreCause, HasBadFile, IsReady, EndsWith, SessionRuns, AskedTells, SessionAnswers}
 use Rattle.pch_shell.specs.declared.status.Status.{Status}
 use Rattle.pch_shell.specs.declared.status.Status.TheVariants.{Done, Words, Store, Sink, Memory, BadInput}
-use Rattle.pch_shell.proofs.RunLemmas.{status_of, cause_rose}
+use Rattle.pch_shell.proofs.DueLemmas.{status_of}
+use Rattle.pch_shell.proofs.RunLemmas.{cause_rose}
 
 -- ---- scripts on other cells
 

@@ -5,6 +5,7 @@ pub mod Due
 pub mod Loading
 pub mod Outcomes
 pub mod Place
+pub mod Produce
 pub mod Runs
 pub mod Session
 pub mod SessionRuns

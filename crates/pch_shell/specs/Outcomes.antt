@@ -4,7 +4,7 @@ use Rattle.pch_io.specs.declared.store.LoadFail.{LoadFail}
 use Rattle.pch_io.specs.declared.store.LoadFail.TheVariants as fails
 use Rattle.pch_lines.specs.Lines.{and_word, and_number, ended}
 use Rattle.pch_shell.specs.declared.status.Status.{Status}
-use Rattle.pch_shell.specs.declared.status.Status.TheVariants.{Done, NotAccepted, Words, Store, Unroutable, BadInput}
+use Rattle.pch_shell.specs.declared.status.Status.TheVariants.{Done, NotAccepted, Words, Store, Differs, Unroutable, Spent, BadInput}
 
 -- the status of a command, the text that is written, and the bytes that are saved before, if any
 pub record Outcome : Type 0 where
@@ -27,6 +27,14 @@ done_with bytes text = record { status = Done; text = text; saved = Some bytes }
 -- what was delivered isn't accepted
 abbrev pub refused : List ℕ → Outcome
 refused text = ends_with NotAccepted text
+
+-- a specification and a design differ
+abbrev pub differs : List ℕ → Outcome
+differs text = ends_with Differs text
+
+-- a budget is spent, and these bytes are what it was spent on
+abbrev pub spent_with : List ℕ → List ℕ → Outcome
+spent_with bytes text = record { status = Spent; text = text; saved = Some bytes }
 
 -- a design needs more than a fabric has
 abbrev pub unroutable : List ℕ → Outcome

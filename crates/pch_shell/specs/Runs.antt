@@ -1,20 +1,15 @@
 -- What a run of the program does to the store and the sink, which status it ends with, and why.
 use Rattle.std.specs.Prelude.{◌≡◌, ◌≢◌, ◌⊎◌, ℕ, List, Option, Some, None}
-use Rattle.blif_defs.specs.declared.mark.TheConstants.{MAX_BYTES}
-use Rattle.fabric_defs.specs.Geometries.{GeometryValue}
-use Rattle.route_defs.specs.declared.demand.Demand.{Demand}
 use Rattle.pch_io.specs.declared.store.LoadFail.{LoadFail}
 use Rattle.pch_io.specs.declared.store.LoadFail.TheVariants.{Failed, NoMemory}
-use Rattle.pch_io.specs.Outside.{Files, Rose, Loads, Saves, Spoils, Appends, AppendsPrefix}
-use Rattle.pch_lines.specs.Words.{Form, form_of, place}
+use Rattle.pch_io.specs.Outside.{Files, Rose, Saves, Spoils, Appends, AppendsPrefix}
+use Rattle.pch_lines.specs.Words.{Form, form_of}
 use Rattle.pch_lines.specs.Files.{files_of, out_of}
-use Rattle.pch_lines.specs.RouteLines.{unroutable_line}
 use Rattle.pch_shell.specs.Outcomes.{Outcome, no_words, not_stored}
 use Rattle.pch_shell.specs.Loading.{AreLoaded, IsNotLoaded}
-use Rattle.pch_shell.specs.Place.{IsUnroutable}
-use Rattle.pch_shell.specs.Due.{FilesDue, Holds}
+use Rattle.pch_shell.specs.Due.{FilesDue, Holds, Differ, NeedMore, Spend}
 use Rattle.pch_shell.specs.declared.status.Status.{Status}
-use Rattle.pch_shell.specs.declared.status.Status.TheVariants.{Done, Words, Store, Sink, Memory, Unroutable}
+use Rattle.pch_shell.specs.declared.status.Status.TheVariants.{Done, Words, Store, Sink, Memory, Differs, Unroutable, Spent}
 
 -- a store: its files, where it tells them, and its count of faults
 pub record StoreState : Type 0 where
@@ -140,19 +135,20 @@ Shows (Some form) old new =
     (files : List (List ℕ)) × AreLoaded old (files_of form) files
     × (saved : List ℕ) × HoldsOut (out_of form) new saved × Holds form files saved
 
--- Status 7: the words are those of `place`, the design was loaded, and the text names the first resource of the
--- fabric of which it needs more than is there. Nothing was saved.
-pub record NamesFirstOver (form : Option Form) (old new : Option Files) (held now : Option (List ℕ)) : Type 0 where
-  pub design_name : List ℕ
-  pub fabric : GeometryValue
-  pub out : List ℕ
-  pub is_place : form ≡ Some (place design_name fabric out)
-  pub design : List ℕ
-  pub loaded : Loads old design_name MAX_BYTES design
-  pub over : Demand
-  pub first : IsUnroutable fabric design over
-  pub told : Appends held now (unroutable_line over)
-  pub unchanged : new ≡ old
+-- statuses 6 and 7: all files were loaded, the text that was written says what is found in them, and nothing was saved
+abbrev pub Says : (Form → List (List ℕ) → List ℕ → Type 0) → Option Form → (old new : Option Files) → (held now : Option (List ℕ)) → Type 0
+Says P None old new held now = ⊥
+Says P (Some form) old new held now =
+    (files : List (List ℕ)) × AreLoaded old (files_of form) files
+    × (text : List ℕ) × P form files text × Appends held now text × (new ≡ old)
+
+-- status 8: all files were loaded, the file that the command saves has the log so far, and the text says its words
+abbrev pub SavesLog : Option Form → (old new : Option Files) → (held now : Option (List ℕ)) → Type 0
+SavesLog None old new held now = ⊥
+SavesLog (Some form) old new held now =
+    (files : List (List ℕ)) × AreLoaded old (files_of form) files
+    × (saved : List ℕ) × HoldsOut (out_of form) new saved
+    × (text : List ℕ) × Spend form files saved text × Appends held now text
 
 -- why a file of the command wasn't loaded or saved
 abbrev pub StoreCause : Option Form → StoreState → StoreState → Type 0
@@ -186,8 +182,12 @@ pub record Runs (words : List (List ℕ)) (old new : StoreState) (before after :
   -- status 0: what the command shows holds of the told files; so a yes of `verify` is a bundle that is accepted, and
   -- whose configuration equals the network
   pub shows : status ≡ Done → Shows (form_of words) old.files new.files
+  -- status 6: the text has an input at which a specification and a design differ
+  pub differs : status ≡ Differs → Says Differ (form_of words) old.files new.files before.held after.held
   -- status 7: the text names the first resource of which the design needs more than is there
-  pub over : status ≡ Unroutable → NamesFirstOver (form_of words) old.files new.files before.held after.held
+  pub over : status ≡ Unroutable → Says NeedMore (form_of words) old.files new.files before.held after.held
+  -- status 8: the budget was less than what is enough, and what it was spent on is saved
+  pub spent : status ≡ Spent → SavesLog (form_of words) old.files new.files before.held after.held
   -- only words without a form are answered so
   pub words_cause : status ≡ Words → form_of words ≡ None
   -- a fault of the outside is answered only by its cause

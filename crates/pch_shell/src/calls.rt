@@ -3,13 +3,13 @@
 ghost use Rattle.std.specs.Prelude.{◌≡◌, None, Some, length, IfOk, OnErr};
 ghost use Rattle.pch_lines.specs.Words.{words_in, form_of};
 ghost use Rattle.pch_lines.specs.Files.{files_of};
-ghost use Rattle.pch_lines.specs.Commands.{form_seen, HasWorkers};
+ghost use Rattle.pch_lines.specs.Commands.{form_seen, IsWithinLimits};
 ghost use Rattle.pch_lines.specs.Sessions.{session_form};
 ghost use Rattle.pch_shell.specs.Due.{FilesDue};
 ghost use Rattle.pch_shell.specs.Runs.{Leaves, Tells, WordsTell, Runs};
 ghost use Rattle.pch_shell.specs.SessionRuns.{Answers};
 
-use crate::commands::{check, cnf, compact, placing, verifying};
+use crate::commands::{check, cnf, compact, placing, producing, verifying};
 use crate::ending::Ending;
 use crate::finishing::{finish, save};
 use crate::loading::{Loaded, load_all};
@@ -29,7 +29,7 @@ fn work<R: Threads + Sync>(
     command: &Command<'_>,
     loaded: Loaded,
 ) -> Result<Ending, NoMemory>
-    requires workers { HasWorkers command.now }
+    requires limits { IsWithinLimits command.now }
     requires all { length loaded ≡ length (files_of (form_seen command.now)) }
     ensures { IfOk result (FilesDue (form_seen command.now) loaded) }
 {
@@ -57,6 +57,24 @@ fn work<R: Threads + Sync>(
             geometry,
             ..
         } => placing::run(alloc, design, geometry, loaded.one()),
+        Command::Produce {
+            spec,
+            design,
+            geometry,
+            budget,
+            ..
+        } => {
+            let (spec_bytes, design_bytes) = loaded.two();
+            producing::run(
+                alloc,
+                spec,
+                design,
+                geometry,
+                budget,
+                spec_bytes,
+                design_bytes,
+            )
+        }
     }
 }
 
@@ -67,7 +85,7 @@ fn run<R: Threads + Sync, S: Store>(
     command: &Command<'_>,
     store: &mut S,
 ) -> Result<Ending, NoMemory>
-    requires { HasWorkers command.now }
+    requires { IsWithinLimits command.now }
     ensures tells { IfOk result (Tells (form_seen command.now)
         (record { files = S.files store.old; faults = S.faults store.old })
         (record { files = S.files store.new; faults = S.faults store.new })) }

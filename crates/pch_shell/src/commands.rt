@@ -4,4 +4,5 @@ pub mod check;
 pub mod cnf;
 pub mod compact;
 pub mod placing;
+pub mod producing;
 pub mod verifying;

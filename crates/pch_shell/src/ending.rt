@@ -1,6 +1,6 @@
 ghost use Rattle.std.specs.Prelude.{◌≡◌, ◌≢◌, None, length, IfOk};
 ghost use Rattle.std.specs.Option.{option_map};
-ghost use Rattle.pch_shell.specs.Outcomes.{done, done_with, refused, unroutable, bad_input, written_line, no_words, not_stored};
+ghost use Rattle.pch_shell.specs.Outcomes.{done, done_with, refused, differs, unroutable, spent_with, bad_input, written_line, no_words, not_stored};
 ghost use Rattle.pch_io.specs.declared.store.LoadFail.{LoadFail};
 
 use crate::status::Status;
@@ -77,6 +77,24 @@ impl Ending {
         ensures { result ≡ refused text.items }
     {
         Ending::with(Status::NotAccepted, text)
+    }
+
+    /// A specification and a design differ.
+    pub fn differs(text: Vec<u8>) -> Ending
+        ensures { result ≡ differs text.items }
+    {
+        Ending::with(Status::Differs, text)
+    }
+
+    /// A budget is spent, and these bytes, what it was spent on, are to be saved.
+    pub fn spent_with(bytes: Vec<u8>, text: Vec<u8>) -> Ending
+        ensures { result ≡ spent_with bytes.items text.items }
+    {
+        Ending {
+            status: Status::Spent,
+            text,
+            saved: Some(bytes),
+        }
     }
 
     /// A design needs more than a fabric has.

@@ -1,7 +1,7 @@
 use Rattle.std.proofs.Common.{IfOk, IfErr, subst, sym, ◌∙◌, arith}
 use Rattle.produce.specs.Endings.{Refuted, Unrefuted}
-use Rattle.produce.proofs.EndLemmas.{grown_miter, answered_ok, answered_err}
-use Rattle.produce.proofs.ShortTrace.{short_trace}
+use Rattle.produce.proofs.EndLemmas.{answered_ok, answered_err}
+use Rattle.produce.proofs.ShortTrace.{short_grown}
 use Rattle.produce.proofs.refuting.refuted_miter.Goals as goal
 
 -- the empty clause is the last one of a log that had none
@@ -13,11 +13,9 @@ returns-clause-refuted c =
     let after = c.tree.new.log in
     let opened = c.in-Ok.ensures in
     let searched = c.in-Ok-tree.ensures in
-    let over = grown_miter spec config before after searched.extends opened.over_miter in
-    let same = searched.extends.budget in
     let at = opened.budget in
-    let short = short_trace spec config after c.inputs-inputs.ensures.net c.geometry-geometry.ensures.known over c.used-used.ensures.log
-    (omega (arith, c.requires.budget)) in
+    let short = short_grown spec config before after c.inputs-inputs.ensures.net c.geometry-geometry.ensures.known opened.over_miter searched.extends
+    c.used-used.ensures.log (omega (arith, c.requires.budget)) in
     subst (λ r. IfOk r (Refuted spec config c.args.budget)) (sym c.answer_of.ensures)
     (answered_ok spec config c.args.budget before after c.in-Ok-tree.end opened.over_miter opened.nothing opened.budget searched.extends
     c.used-used.ensures.log short searched.ends)
@@ -31,11 +29,9 @@ returns-clause-unrefuted c =
     let after = c.tree.new.log in
     let opened = c.in-Ok.ensures in
     let searched = c.in-Ok-tree.ensures in
-    let over = grown_miter spec config before after searched.extends opened.over_miter in
-    let same = searched.extends.budget in
     let at = opened.budget in
-    let short = short_trace spec config after c.inputs-inputs.ensures.net c.geometry-geometry.ensures.known over c.used-used.ensures.log
-    (omega (arith, c.requires.budget)) in
+    let short = short_grown spec config before after c.inputs-inputs.ensures.net c.geometry-geometry.ensures.known opened.over_miter searched.extends
+    c.used-used.ensures.log (omega (arith, c.requires.budget)) in
     subst (λ r. IfErr r (Unrefuted spec config c.args.budget)) (sym c.answer_of.ensures)
     (answered_err spec config c.args.budget before after c.in-Ok-tree.end opened.over_miter opened.nothing opened.budget searched.extends
     c.used-used.ensures.log short searched.ends)

@@ -1,0 +1,60 @@
+-- What `produce` comes to where both files describe networks.
+use Rattle.std.proofs.Common.{◌≡◌, inl, inr, ℕ, List, length, Result, Ok, Err, IfOk}
+use Rattle.net_defs.specs.Networks.{Network}
+use Rattle.net_defs.specs.Specifications.{HasNetwork}
+use Rattle.fabric_defs.specs.Geometries.{GeometryValue}
+use Rattle.produce.specs.declared.produce_end.ProduceEnd.{ProduceEnd}
+use Rattle.produce.specs.declared.produce_end.ProduceEnd.TheVariants.{Interface, Unroutable, Differs, Spent, NoMemory}
+use Rattle.produce.specs.Endings.{EndsBy}
+use Rattle.produce.specs.Bundling.{Produced}
+use Rattle.pch_shell.specs.Outcomes.{Outcome, done_with, written_line}
+use Rattle.pch_shell.specs.Produce.{Describe, ToldOfEnd, CanBeTold, ProduceDue}
+
+-- the cause of an end is what its telling rests on
+pub can_be_told : (wanted given : Network) (g : GeometryValue) (budget : ℕ) (end : ProduceEnd) → EndsBy wanted given g budget end
+    → CanBeTold wanted given end
+can_be_told wanted given g budget (Interface error) h = tt
+can_be_told wanted given g budget (Unroutable resource place need have) h = tt
+can_be_told wanted given g budget (Differs x) (net, aligned, config, placed, differ) = (net, aligned, differ)
+can_be_told wanted given g budget (Spent used need log) (net, aligned, config, placed, spent) = spent.short
+can_be_told wanted given g budget NoMemory h = tt
+
+-- what was told of an end is due
+ended_due : (sn dn : List ℕ) (g : GeometryValue) (budget : ℕ) (spec design : List ℕ) (wanted given : Network) (end : ProduceEnd) (o : Outcome)
+    → Describe spec design wanted given → EndsBy wanted given g budget end → ToldOfEnd wanted given end o
+    → ProduceDue sn dn g budget spec design o
+ended_due sn dn g budget spec design wanted given (Interface error) o describe h is =
+    inr (inr (inr (inr (inl (error, record { wanted = wanted; given = given; describe = describe; first = h }, is)))))
+ended_due sn dn g budget spec design wanted given (Unroutable resource place need have) o describe (net, aligned, first) is =
+    inr (inr (inl (
+      record { resource = resource; place = place; need = need; have = have },
+      record { wanted = wanted; given = given; describe = describe; net = net; aligned = aligned; first = first },
+      is,
+    )))
+ended_due sn dn g budget spec design wanted given (Differs x) o describe h (y, z, differ, is) =
+    inr (inl (x, y, z, record { wanted = wanted; given = given; describe = describe; differ = differ }, is))
+ended_due sn dn g budget spec design wanted given (Spent used need log) o describe h (bytes, trace, is) =
+    inr (inr (inr (inl (
+      used,
+      need,
+      bytes,
+      record { wanted = wanted; given = given; describe = describe; log = log; ends = h; trace = trace },
+      is,
+    ))))
+ended_due sn dn g budget spec design wanted given NoMemory o describe h is = absurd is
+
+-- so it is where memory may be wanting
+pub told_due : {N : Type 0} (r : Result Outcome N) (sn dn : List ℕ) (g : GeometryValue) (budget : ℕ) (spec design : List ℕ)
+    (wanted given : Network) (end : ProduceEnd) → Describe spec design wanted given → EndsBy wanted given g budget end
+    → IfOk r (ToldOfEnd wanted given end) → IfOk r (ProduceDue sn dn g budget spec design)
+told_due (Ok o) sn dn g budget spec design wanted given end describe ends told =
+    ended_due sn dn g budget spec design wanted given end o describe ends told
+told_due (Err n) sn dn g budget spec design wanted given end describe ends told = told
+
+-- the bytes of a bundle that was produced are what is saved
+pub produced_due : {N : Type 0} (r : Result Outcome N) (sn dn : List ℕ) (g : GeometryValue) (budget : ℕ) (spec design bytes : List ℕ)
+    (wanted given : Network) → Describe spec design wanted given → Produced wanted given g bytes
+    → IfOk r (λ o. o ≡ done_with bytes (written_line (length bytes))) → IfOk r (ProduceDue sn dn g budget spec design)
+produced_due (Ok o) sn dn g budget spec design bytes wanted given describe produced is =
+    inl (bytes, record { wanted = wanted; given = given; describe = describe; produced = produced }, is)
+produced_due (Err n) sn dn g budget spec design bytes wanted given describe produced is = is

@@ -20,7 +20,7 @@ can_be_told wanted given g budget (Spent used need log) (net, aligned, config, p
 can_be_told wanted given g budget NoMemory h = tt
 
 -- what was told of an end is due
-ended_due : (sn dn : List ℕ) (g : GeometryValue) (budget : ℕ) (spec design : List ℕ) (wanted given : Network) (end : ProduceEnd) (o : Outcome)
+pub ended_due : (sn dn : List ℕ) (g : GeometryValue) (budget : ℕ) (spec design : List ℕ) (wanted given : Network) (end : ProduceEnd) (o : Outcome)
     → Describe spec design wanted given → EndsBy wanted given g budget end → ToldOfEnd wanted given end o
     → ProduceDue sn dn g budget spec design o
 ended_due sn dn g budget spec design wanted given (Interface error) o describe h is =

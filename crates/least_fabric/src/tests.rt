@@ -1,7 +1,5 @@
 use crate::least_fabric;
-use demo_texts::{MAX_BITS, ripple_text, select_text};
-use netlist::{read_specification, same_interface};
-use place_net::place;
+use netlist::read_specification;
 use std::test::Fail;
 
 /// A full adder. The cells of x and g stand in column 0, those of s and h in column 1, and that of cout
@@ -41,19 +39,5 @@ fn each_part_is_there_at_least_once(rt: HostRuntime) -> Result<(), Fail> {
     let net = read_specification(rt.alloc(), ONE)?;
     let g = least_fabric(rt.alloc(), &net)?;
     assert!(rt; (g.c(), g.r(), g.t(), g.i(), g.o()) == (1, 1, 1, 1, 1));
-    Ok(())
-}
-
-#[test]
-fn adders_of_all_sizes_are_placed(rt: HostRuntime) -> Result<(), Fail> {
-    let alloc = rt.alloc();
-    for bits in 1..=MAX_BITS {
-        let ripple = read_specification(alloc, &ripple_text(alloc, bits)?)?;
-        let select = read_specification(alloc, &select_text(alloc, bits)?)?;
-        assert!(rt; same_interface(alloc, &ripple, &select).is_ok());
-        let g = least_fabric(alloc, &select)?;
-        assert!(rt; g.i() == 2 * bits && g.o() == bits + 1);
-        assert!(rt; place(alloc, &select, g).is_ok());
-    }
     Ok(())
 }

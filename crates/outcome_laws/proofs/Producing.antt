@@ -1,5 +1,5 @@
 -- `produce` ends with a bundle where both files compute the same, and else with a difference, if its budget is enough.
-use Rattle.std.proofs.Common.{◌≡◌, ◌≢◌, ◌⊎◌, inl, inr, ℕ, ◌<◌, ◌≤◌, List, length, take, None, Some, refl, sym, ap, subst, ◌∙◌, arith}
+use Rattle.std.proofs.Common.{◌≡◌, inl, inr, ℕ, ◌<◌, ◌≤◌, List, length, take, None, Some, refl, sym, ap, subst, ◌∙◌, arith}
 use Rattle.net_defs.specs.Networks.{Network}
 use Rattle.net_defs.specs.Nets.{IsNet}
 use Rattle.net_defs.specs.Evaluation.{SpecOut, bits_at, output_signals}

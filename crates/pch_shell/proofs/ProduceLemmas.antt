@@ -1,23 +1,24 @@
 -- What `produce` comes to where both files describe networks.
-use Rattle.std.proofs.Common.{◌≡◌, inl, inr, ℕ, List, length, Result, Ok, Err, IfOk}
+use Rattle.std.proofs.Common.{◌≡◌, inl, inr, ℕ, List, length, Result, Ok, Err, IfOk, ap, sym, subst, ◌∙◌}
+use Rattle.sat_text_defs.specs.TraceText.{TraceText}
 use Rattle.net_defs.specs.Networks.{Network}
-use Rattle.net_defs.specs.Specifications.{HasNetwork}
 use Rattle.fabric_defs.specs.Geometries.{GeometryValue}
+use Rattle.log_defs.specs.Logs.{LogValue}
+use Rattle.miter_size.specs.Sizes.{log_trace}
 use Rattle.produce.specs.declared.produce_end.ProduceEnd.{ProduceEnd}
 use Rattle.produce.specs.declared.produce_end.ProduceEnd.TheVariants.{Interface, Unroutable, Differs, Spent, NoMemory}
 use Rattle.produce.specs.Endings.{EndsBy}
 use Rattle.produce.specs.Bundling.{Produced}
-use Rattle.pch_shell.specs.Outcomes.{Outcome, done_with, written_line}
-use Rattle.pch_shell.specs.Produce.{Describe, ToldOfEnd, CanBeTold, ProduceDue}
+use Rattle.pch_lines.specs.ProduceLines.{spent_line}
+use Rattle.pch_shell.specs.Outcomes.{Outcome, done_with, spent_with, written_line}
+use Rattle.pch_shell.specs.Produce.{Describe, ToldOfEnd, ProduceDue}
 
--- the cause of an end is what its telling rests on
-pub can_be_told : (wanted given : Network) (g : GeometryValue) (budget : ℕ) (end : ProduceEnd) → EndsBy wanted given g budget end
-    → CanBeTold wanted given end
-can_be_told wanted given g budget (Interface error) h = tt
-can_be_told wanted given g budget (Unroutable resource place need have) h = tt
-can_be_told wanted given g budget (Differs x) (net, aligned, config, placed, differ) = (net, aligned, differ)
-can_be_told wanted given g budget (Spent used need log) (net, aligned, config, placed, spent) = spent.short
-can_be_told wanted given g budget NoMemory h = tt
+-- of a spent budget the text of the log is told, and its words
+pub spent_told : (wanted given : Network) (end : ProduceEnd) (used need : ℕ) (log : LogValue) (bytes line : List ℕ) (o : Outcome)
+    → end ≡ Spent used need log → TraceText bytes 1 (log_trace log) → line ≡ spent_line used need → o ≡ spent_with bytes line
+    → ToldOfEnd wanted given end o
+spent_told wanted given end used need log bytes line o spent reads says is =
+    subst (λ e. ToldOfEnd wanted given e o) (sym spent) (bytes, reads, is ∙ ap (spent_with bytes) says)
 
 -- what was told of an end is due
 pub ended_due : (sn dn : List ℕ) (g : GeometryValue) (budget : ℕ) (spec design : List ℕ) (wanted given : Network) (end : ProduceEnd) (o : Outcome)

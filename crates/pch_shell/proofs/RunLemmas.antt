@@ -1,5 +1,5 @@
 -- What follows from how a run ends.
-use Rattle.std.proofs.Common.{◌≡◌, ◌≢◌, ◌⊎◌, inl, inr, ℕ, ◌<◌, ◌≤◌, List, [], ◌∷◌, length, Option, Some, None, IsSomeAnd, Result, Ok, Err, IfOk, OnErr, refl, sym, ap, subst, ◌∙◌, arith}
+use Rattle.std.proofs.Common.{◌≡◌, ◌≢◌, inl, inr, ℕ, ◌<◌, ◌≤◌, List, [], ◌∷◌, length, Option, Some, None, IsSomeAnd, Result, Ok, Err, IfOk, OnErr, refl, sym, ap, subst, ◌∙◌, arith}
 use Rattle.pch_io.specs.declared.store.LoadFail.{LoadFail}
 use Rattle.pch_io.specs.declared.store.LoadFail.TheVariants as fails
 use Rattle.pch_io.specs.Outside.{Files, Rose, Loads, LoadCause, Saves, Spoils, Appends}
@@ -8,10 +8,10 @@ use Rattle.pch_lines.specs.Files.{FileValue, files_of, out_of}
 use Rattle.pch_shell.specs.Outcomes.{Outcome, not_stored}
 use Rattle.pch_shell.specs.Loading.{AreLoaded, IsNotLoaded}
 use Rattle.pch_shell.specs.Due.{FilesDue, Differ, NeedMore}
-use Rattle.pch_shell.specs.Runs.{StoreState, SinkState, OnlyOut, AreSaved, NotSaved, AfterSave, Tells, WordsTell, out_named, Put, Leaves, Ends, HoldsOut, Shows, Says, SavesLog, StoreCause, IsDecided, Completes, Runs}
+use Rattle.pch_shell.specs.Runs.{StoreState, SinkState, OnlyOut, AreSaved, NotSaved, AfterSave, Tells, WordsTell, out_named, Put, Leaves, Ends, Shows, Says, SavesLog, StoreCause, IsDecided, Completes, Runs}
 use Rattle.pch_shell.specs.declared.status.Status.{Status}
 use Rattle.pch_shell.specs.declared.status.Status.TheVariants.{Done, Words, Store, Sink, Memory, Differs, Unroutable, Spent}
-use Rattle.pch_shell.proofs.DueLemmas.{status_of, text_of, IsOfWork, due_work, done_shows, due_differ, due_over, due_spent}
+use Rattle.pch_shell.proofs.DueLemmas.{status_of, IsOfWork, due_work, done_shows, due_differ, due_over, due_spent}
 
 -- ---- files
 

@@ -7,3 +7,7 @@ returns-in-Cnf g c = rw (c.in-Cnf.is, c.two-spec_bytes-in-Cnf.ensures) c.run-in-
 -- so is the one file
 pub returns-in-Compact : goal.returns-in-Compact
 returns-in-Compact g c = rw (c.in-Compact.is, c.one.ensures) c.run-in-Compact.ensures
+
+-- and so are the two files of a specification and a design
+pub returns-in-Produce : goal.returns-in-Produce
+returns-in-Produce g c = rw (c.in-Produce.is, c.two-spec_bytes-in-Produce.ensures) c.run-in-Produce.ensures

@@ -1,7 +1,9 @@
 -- What is accepted isn't refused, and which fault of the texts comes first.
-use Rattle.std.proofs.Common.{◌≡◌, ◌≢◌, ◌⊎◌, inl, inr, ℕ, List, Ok, Err}
+use Rattle.std.proofs.Common.{◌≡◌, ◌≢◌, ◌⊎◌, inl, inr, ℕ, List, Ok, Err, subst, ◌∙◌}
 use Rattle.net_defs.specs.Networks.{Network}
-use Rattle.net_defs.specs.Specifications.{HasNetwork}
+use Rattle.net_defs.specs.Specifications.{HasNetwork, IsSpecFault}
+use Rattle.net_defs.specs.declared.specification.SpecError.{SpecError}
+use Rattle.net_defs.specs.declared.specification.SpecError.TheVariants as spec_errors
 use Rattle.fabric_defs.specs.Geometries.{GeometryValue}
 use Rattle.verify_defs.specs.Acceptance.{Accepts}
 use Rattle.verify_defs.specs.Refusals.{FirstRefusal}
@@ -20,6 +22,12 @@ accepted_not_refused g net bytes r accepted (inl none) real = real none
 accepted_not_refused g net bytes r (config, accepted) (inr first) real =
     let same = outcome_one g net bytes (Ok config) (Err r) (accepted_outcome g net bytes config accepted)
     (refused_outcome g net bytes r first) in cc
+
+-- a fault that isn't want of memory is that of the text that was read
+pub fault_of_text : (text now items : List ℕ) (e : SpecError) → now ≡ items → items ≡ text
+    → (e ≡ spec_errors.NoMemory) ⊎ IsSpecFault now e → e ≢ spec_errors.NoMemory → IsSpecFault text e
+fault_of_text text now items e a b (inl none) real = absurd (real none)
+fault_of_text text now items e a b (inr fault) real = subst (λ t. IsSpecFault t e) (a ∙ b) fault
 
 -- where the first text has no fault, the fault of the second one is the first
 pub design_faulty : (bits : ℕ) (net : Network) (e : AddersError) → HasNetwork (ripple_text bits) net → IsDesignFaulty bits e → AreFaulty bits e

@@ -74,8 +74,10 @@ fn spec_of(alloc: Global, bits: u32) -> Result<Net, AddersError>
 {
     match read_specification(alloc, &ripple_text(alloc, bits)?) {
         Ok(net) => Ok(net),
-        Err(SpecError::NoMemory) => Err(AddersError::NoMemory),
-        Err(error) => Err(AddersError::Spec(error)),
+        Err(error) => match error {
+            SpecError::NoMemory => Err(AddersError::NoMemory),
+            _ => Err(AddersError::Spec(error)),
+        },
     }
 }
 
@@ -88,8 +90,10 @@ fn design_of(alloc: Global, bits: u32) -> Result<Net, AddersError>
 {
     match read_specification(alloc, &select_text(alloc, bits)?) {
         Ok(net) => Ok(net),
-        Err(SpecError::NoMemory) => Err(AddersError::NoMemory),
-        Err(error) => Err(AddersError::Design(error)),
+        Err(error) => match error {
+            SpecError::NoMemory => Err(AddersError::NoMemory),
+            _ => Err(AddersError::Design(error)),
+        },
     }
 }
 

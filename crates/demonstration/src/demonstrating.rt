@@ -82,7 +82,9 @@ fn judged<R: Threads + Sync>(
 {
     match verify(rt, alloc, spec, g, bundle, WORKERS) {
         Ok(verified) => Ok(verified),
-        Err(Refusal::NoMemory) => Err(NoMemory),
-        Err(_) => unreachable!(),
+        Err(refusal) => match refusal {
+            Refusal::NoMemory => Err(NoMemory),
+            _ => unreachable!(),
+        },
     }
 }

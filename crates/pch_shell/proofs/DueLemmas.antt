@@ -120,7 +120,7 @@ fabric_for bits o e = (e.given, e.adders.designed, e.adders.least)
 demo_status : (P : Status → Type 0) → P Done → P Differs → P Unroutable → P Spent → P BadInput → (bits : ℕ) (o : Outcome)
     → DemoDue bits o → P o.status
 demo_status P d x u s b bits o (inl h) = subst P (sym (status_of o _ h.3)) d
-demo_status P d x u s b bits o (inr (inl e)) = produce_status P d x u s b _ _ _ _ _ _ o (as_produced bits o e)
+demo_status P d x u s b bits o (inr (inl e)) = produce_status P d x u s b (codes "ripple") (codes "select") _ _ _ _ o (as_produced bits o e)
 demo_status P d x u s b bits o (inr (inr (inl h))) = subst P (sym (status_of o _ h.2)) b
 demo_status P d x u s b bits o (inr (inr (inr h))) = subst P (sym (status_of o _ h.2)) b
 
@@ -227,7 +227,7 @@ produce_shows sn dn g budget spec design out o old new done (inr (inr (inr (inr 
 -- where nothing was produced, something else is told than that it is done
 told_other : (wanted given : Network) (end : ProduceEnd) (o : Outcome) → ToldOfEnd wanted given end o → o.status ≡ Done → ⊥
 told_other wanted given (ends.Interface error) o is = other_status o _ Done is (λ e. cc)
-told_other wanted given (ends.Unroutable resource place need have) o is = other_status o _ Done is (λ e. cc)
+told_other wanted given (ends.Unroutable resource which need have) o is = other_status o _ Done is (λ e. cc)
 told_other wanted given (ends.Differs x) o (y, z, differ, is) = other_status o _ Done is (λ e. cc)
 told_other wanted given (ends.Spent used need log) o (bytes, reads, is) = other_status o _ Done is (λ e. cc)
 told_other wanted given ends.NoMemory o is = absurd is
@@ -320,7 +320,7 @@ demo_differs : (bits : ℕ) (o : Outcome) → o.status ≡ Differs → DemoDue b
     → (x : List ℕ) × (y : List ℕ) × (z : List ℕ) × IsDifference (ripple_text bits) (select_text bits) x y z
     × (o ≡ differs (differs_line x y z))
 demo_differs bits o is (inl h) = absurd (other_status o _ Differs h.3 (λ e. cc) is)
-demo_differs bits o is (inr (inl e)) = produce_differs _ _ _ _ _ _ o is (as_produced bits o e)
+demo_differs bits o is (inr (inl e)) = produce_differs (codes "ripple") (codes "select") _ _ _ _ o is (as_produced bits o e)
 demo_differs bits o is (inr (inr (inl h))) = absurd (other_status o _ Differs h.2 (λ e. cc) is)
 demo_differs bits o is (inr (inr (inr h))) = absurd (other_status o _ Differs h.2 (λ e. cc) is)
 
@@ -329,7 +329,9 @@ demo_over : (bits : ℕ) (o : Outcome) → o.status ≡ Unroutable → DemoDue b
     → (g : GeometryValue) × IsFabricFor bits g × (over : Demand) × NeedsMore g (ripple_text bits) (select_text bits) over
     × (o ≡ unroutable (unroutable_line over))
 demo_over bits o is (inl h) = absurd (other_status o _ Unroutable h.3 (λ e. cc) is)
-demo_over bits o is (inr (inl e)) = (e.g, fabric_for bits o e, produce_over _ _ _ _ _ _ o is (as_produced bits o e))
+demo_over bits o is (inr (inl e)) =
+    let found = produce_over (codes "ripple") (codes "select") _ _ _ _ o is (as_produced bits o e) in
+    (e.g, fabric_for bits o e, found.0, found.1, found.2)
 demo_over bits o is (inr (inr (inl h))) = absurd (other_status o _ Unroutable h.2 (λ e. cc) is)
 demo_over bits o is (inr (inr (inr h))) = absurd (other_status o _ Unroutable h.2 (λ e. cc) is)
 
@@ -338,7 +340,9 @@ demo_spent : (bits : ℕ) (o : Outcome) → o.status ≡ Spent → DemoDue bits 
     → (g : GeometryValue) × IsFabricFor bits g × (used : ℕ) × (need : ℕ) × (bytes : List ℕ)
     × IsSpent g BUDGET (ripple_text bits) (select_text bits) used need bytes × (o ≡ spent_with bytes (spent_line used need))
 demo_spent bits o is (inl h) = absurd (other_status o _ Spent h.3 (λ e. cc) is)
-demo_spent bits o is (inr (inl e)) = (e.g, fabric_for bits o e, produce_spent _ _ _ _ _ _ o is (as_produced bits o e))
+demo_spent bits o is (inr (inl e)) =
+    let found = produce_spent (codes "ripple") (codes "select") _ _ _ _ o is (as_produced bits o e) in
+    (e.g, fabric_for bits o e, found.0, found.1, found.2, found.3, found.4)
 demo_spent bits o is (inr (inr (inl h))) = absurd (other_status o _ Spent h.2 (λ e. cc) is)
 demo_spent bits o is (inr (inr (inr h))) = absurd (other_status o _ Spent h.2 (λ e. cc) is)
 

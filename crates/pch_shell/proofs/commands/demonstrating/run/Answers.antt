@@ -6,11 +6,12 @@ use Rattle.pch_shell.proofs.commands.demonstrating.run.Goals as goal
 pub returns-in-Ok-demonstrate : goal.returns-in-Ok-demonstrate
 returns-in-Ok-demonstrate g c =
     shown_due c.args.bits (arc_value c.in-Ok.adders.spec) c.in-Ok.adders.design c.in-Ok.adders.fabric
-    c.in-Ok-demonstrate.shown.bundle.items c.in-Ok-demonstrate.shown.ones.items c.in_ok-text.text.items c.done_with.result
-    c.in-Ok.ensures.adders c.in-Ok-demonstrate.ensures.shown c.in_ok-text.ensures c.done_with.ensures
+    c.in-Ok-demonstrate.shown.bundle.items c.in-Ok-demonstrate.shown.ones.items c.in_ok-text-in-Ok-demonstrate.text.items c.done_with.result
+    c.in-Ok.ensures.adders c.in-Ok-demonstrate.ensures.shown (rw c.deref.ensures.value at c.in_ok-text-in-Ok-demonstrate.ensures) c.done_with.ensures
 
 -- what is told of an end is due
 pub returns : goal.returns
 returns g c =
     ended_due c.not_produced.result c.args.bits (arc_value c.in-Ok.adders.spec) c.in-Ok.adders.design c.in-Ok.adders.fabric
-    c.in-Err-demonstrate.end c.in-Ok.ensures.adders c.in-Err-demonstrate.ensures.ends c.not_produced.ensures
+    c.in-Err-demonstrate.end c.in-Ok.ensures.adders c.in-Err-demonstrate.ensures.ends
+    (rw c.deref-in-Err-demonstrate.ensures.value at c.not_produced.ensures)

@@ -14,4 +14,4 @@ pub returns : goal.returns
 returns g c =
     ended_due c.not_produced.result c.args.bits (arc_value c.in-Ok.adders.spec) c.in-Ok.adders.design c.in-Ok.adders.fabric
     c.in-Err-demonstrate.end c.in-Ok.ensures.adders c.in-Err-demonstrate.ensures.ends
-    (rw c.deref-in-Err-demonstrate.ensures.value at c.not_produced.ensures)
+    (rw c.deref-in-Err-demonstrate.ensures at c.not_produced.ensures)

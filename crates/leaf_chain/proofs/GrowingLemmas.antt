@@ -109,6 +109,7 @@ module _ (f : List Lits) (e : Evaluated) (v : ℕ) (value : Bool) (evaluated : I
 
   -- the variable has a reason
   module _ (reason : ℕ) (low : 1 ≤ reason) (high : reason ≤ length f) (is_reason : IsReason (set e.values v value) e.order v (clause_numbered f reason)) where
+    -- the variables with reasons, the new one among them, have the numbers of clauses
     numbers_after : (i : ℕ) → e.chosen ≤ i → i < length (e.order ++ v ∷ []) → (1 ≤ get_or (e.reasons ++ reason ∷ []) i 0) × (get_or (e.reasons ++ reason ∷ []) i 0 ≤ length f)
     numbers_after i le lt =
         let many = evaluated.as_many in
@@ -121,6 +122,7 @@ module _ (f : List Lits) (e : Evaluated) (v : ℕ) (value : Bool) (evaluated : I
           | inr past ↦ let own = last e.reasons reason i (omega (arith, longer)) in (omega arith, omega arith)
         ]
 
+    -- and each of these clauses is the reason of its variable, by the variables before it
     reasons_after : (i : ℕ) → e.chosen ≤ i → i < length (e.order ++ v ∷ [])
         → IsReason (set e.values v value) (take i (e.order ++ v ∷ [])) (variable_at (e.order ++ v ∷ []) i) (clause_numbered f (get_or (e.reasons ++ reason ∷ []) i 0))
     reasons_after i le lt =
@@ -140,6 +142,7 @@ module _ (f : List Lits) (e : Evaluated) (v : ℕ) (value : Bool) (evaluated : I
               (subst (λ n. Own e.order v n) (sym (last e.reasons reason i (omega arith))) is_reason))
         ]
 
+    -- so the evaluation keeps its rules with this variable and its reason
     pub evaluated_implied : IsEvaluated f (with_implied e v value reason)
     evaluated_implied = record {
       within = within_after;

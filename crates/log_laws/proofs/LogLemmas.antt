@@ -12,15 +12,19 @@ use Rattle.log_defs.specs.Logs.{Derived, lits_of, derived_at, all_clauses, claus
 abbrev nothing : Derived
 nothing = record { lits = []; antecedents = [] }
 
+-- more clauses behind a derived clause leave it where it is
 pub derived_at-before : (ds es : List Derived) (k : ℕ) → k < length ds → derived_at (ds ++ es) k ≡ derived_at ds k
 derived_at-before ds es k lt = get_or_append_left ds es nothing k lt
 
+-- a clause that is put behind the derived ones is the last of them
 pub derived_at-last : (ds : List Derived) (d : Derived) (k : ℕ) → k ≡ length ds → derived_at (ds ++ d ∷ []) k ≡ d
 derived_at-last ds d k e = ap (derived_at (ds ++ d ∷ [])) e ∙ get_or-append_seam ds d [] nothing
 
+-- the clauses are as many as those of the formula and the derived ones together
 pub length-all_clauses : (f : List Lits) (ds : List Derived) → length (all_clauses f ds) ≡ length f + length ds
 length-all_clauses f ds = length-append f (map lits_of ds) ∙ ap (λ n. length f + n) (length-map ds lits_of)
 
+-- where more clauses are derived, they come behind all that were there
 all_clauses-more : (f : List Lits) (ds es : List Derived) → all_clauses f (ds ++ es) ≡ all_clauses f ds ++ map lits_of es
 all_clauses-more f ds es = ap (λ cs. f ++ cs) (map-append lits_of ds es) ∙ sym (append_assoc f (map lits_of ds) (map lits_of es))
 
@@ -58,6 +62,7 @@ clauses_stay f ds es is within =
 own_indices : (f : List Lits) (ds : List Derived) → LogOk f ds → (k : ℕ) → k < length ds → AreIndices f ds (derived_at ds k).antecedents
 own_indices f ds ok k lt i h = let range = ok.earlier k i h in (range.0, let high = range.1 in omega arith)
 
+-- a clause still follows from its antecedents where more clauses are derived
 resolves_there : (f : List Lits) (ds es : List Derived) (d : Derived) → AreIndices f ds d.antecedents
     → Resolves (map (clause_with f ds) d.antecedents) d.lits → Resolves (map (clause_with f (ds ++ es)) d.antecedents) d.lits
 resolves_there f ds es d within h = subst (λ cs. Resolves cs d.lits) (sym (clauses_stay f ds es d.antecedents within)) h
@@ -66,6 +71,7 @@ resolves_there f ds es d within h = subst (λ cs. Resolves cs d.lits) (sym (clau
 module _ (f : List Lits) (ds : List Derived) (d : Derived) (ok : LogOk f ds) (within : AreIndices f ds d.antecedents)
     (resolves : Resolves (map (clause_with f ds) d.antecedents) d.lits)
     (is_new : (k : ℕ) → k < length ds → SameSet (derived_at ds k).lits d.lits → ⊥) where
+  -- there is one derived clause more
   longer : length (ds ++ d ∷ []) ≡ length ds + 1
   longer = length-append ds (d ∷ [])
 
@@ -79,12 +85,14 @@ module _ (f : List Lits) (ds : List Derived) (d : Derived) (ok : LogOk f ds) (wi
         subst (λ n. P n (derived_at (ds ++ d ∷ []) k)) (sym at) (subst (P (length ds)) (sym (derived_at-last ds d k at)) last)
   ]
 
+  -- the antecedents of each derived clause, old or new, are clauses before it
   earlier_after : (k i : ℕ) → Has (derived_at (ds ++ d ∷ []) k).antecedents i → (1 ≤ i) × (i ≤ length f + k)
   earlier_after k = elim (cases_lt k (length (ds ++ d ∷ []))) [
     | inl lt ↦ each (λ n e. (i : ℕ) → Has e.antecedents i → (1 ≤ i) × (i ≤ length f + n)) (λ n below. ok.earlier n) within k lt
     | inr past ↦ λ i h. absurd (subst (λ (e : Derived). Has e.antecedents i) (get_or_past (ds ++ d ∷ []) k nothing past) h)
   ]
 
+  -- no two derived clauses are the same, the new one among them
   distinct_after : (j k : ℕ) → j < k → k < length (ds ++ d ∷ []) → SameSet (derived_at (ds ++ d ∷ []) j).lits (derived_at (ds ++ d ∷ []) k).lits → ⊥
   distinct_after j k lt within_k =
       each (λ n e. (i : ℕ) → i < n → SameSet (derived_at (ds ++ d ∷ []) i).lits e.lits → ⊥)
@@ -92,6 +100,7 @@ module _ (f : List Lits) (ds : List Derived) (d : Derived) (ok : LogOk f ds) (wi
       (λ i less. subst (λ (e : Derived). SameSet e.lits d.lits → ⊥) (sym (derived_at-before ds (d ∷ []) i less)) (is_new i less))
       k within_k j lt
 
+  -- so what holds of a log holds with the new clause, too
   pub LogOk-push : LogOk f (ds ++ d ∷ [])
   LogOk-push = record {
     earlier = earlier_after;
@@ -112,6 +121,7 @@ LogOk-empty f = record {
 
 -- ---- later logs
 
+-- an index of a log is one of each later log
 pub index_stays : (before after : LogValue) (i : ℕ) → Extends before after → IsIndexOf before i → IsIndexOf after i
 index_stays before after i ext h = record {
   low = h.low;
@@ -122,6 +132,7 @@ index_stays before after i ext h = record {
       omega (arith, same, longer, length-append before.derived ext.more);
 }
 
+-- and the later log has the same clause there
 pub clause_stays : (before after : LogValue) (i : ℕ) → Extends before after → IsIndexOf before i
     → clause_of_log after i ≡ clause_of_log before i
 clause_stays before after i ext h =

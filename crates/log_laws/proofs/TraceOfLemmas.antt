@@ -16,46 +16,55 @@ use Rattle.log_laws.proofs.LogLemmas.{clause_with-original, clause_with-derived}
 
 -- ---- how long it is, and what stands where
 
+-- there is one entry for each clause of the formula
 length-original_entries : (i : ℕ) (f : List Lits) → length (original_entries i f) ≡ length f
 length-original_entries i [] = refl
 length-original_entries i (c ∷ cs) = ap suc (length-original_entries (i + 1) cs)
 
+-- and one for each derived clause
 length-derived_entries : (i : ℕ) (ds : List Derived) → length (derived_entries i ds) ≡ length ds
 length-derived_entries i [] = refl
 length-derived_entries i (d ∷ ds) = ap suc (length-derived_entries (i + 1) ds)
 
+-- so the trace has as many entries as there are clauses in the log
 pub length-trace_of : (f : List Lits) (ds : List Derived) → length (trace_of f ds) ≡ length f + length ds
 length-trace_of f ds =
     let all = length-append (original_entries 1 f) (derived_entries (length f + 1) ds) in
     let first = length-original_entries 1 f in
     let second = length-derived_entries (length f + 1) ds in omega arith
 
+-- the entry of a clause of the formula stands in the clause's place and has its index
 at_original : (i : ℕ) (f : List Lits) (k j : ℕ) → k < length f → j ≡ i + k → slice_get (original_entries i f) k ≡ Some (original_entry j (get_or f k []))
 at_original i [] k j lt e = absurd (omega arith)
 at_original i (c ∷ cs) zero j lt e = ap (λ n. Some (original_entry n c)) (let same : i ≡ j = omega arith in same)
 at_original i (c ∷ cs) (suc k) j lt e = at_original (i + 1) cs k j (omega arith) (omega arith)
 
+-- and so does the entry of a derived clause
 at_derived : (i : ℕ) (ds : List Derived) (k j : ℕ) → k < length ds → j ≡ i + k → slice_get (derived_entries i ds) k ≡ Some (derived_entry j (derived_at ds k))
 at_derived i [] k j lt e = absurd (omega arith)
 at_derived i (d ∷ ds) zero j lt e = ap (λ n. Some (derived_entry n d)) (let same : i ≡ j = omega arith in same)
 at_derived i (d ∷ ds) (suc k) j lt e = at_derived (i + 1) ds k j (omega arith) (omega arith)
 
+-- a place within the first of two joined lists has what the first one has there
 front : {X : Type 0} (xs ys : List X) (k : ℕ) → k < length xs → slice_get (xs ++ ys) k ≡ slice_get xs k
 front [] ys k lt = absurd (omega arith)
 front (x ∷ xs) ys zero lt = refl
 front (x ∷ xs) ys (suc k) lt = front xs ys k (omega arith)
 
+-- a place behind it has what the second one has, counted from the second one's start
 back : {X : Type 0} (xs ys : List X) (k j : ℕ) → k ≡ length xs + j → slice_get (xs ++ ys) k ≡ slice_get ys j
 back [] ys k j e = ap (slice_get ys) (let same : k ≡ j = omega arith in same)
 back (x ∷ xs) ys zero j e = absurd (omega arith)
 back (x ∷ xs) ys (suc k) j e = back xs ys k j (omega arith)
 
 module _ (f : List Lits) (ds : List Derived) where
+  -- the first entries of the trace are those of the formula's clauses
   pub original_there : (k : ℕ) → k < length f → slice_get (trace_of f ds) k ≡ Some (original_entry (k + 1) (get_or f k []))
   original_there k lt =
       front (original_entries 1 f) (derived_entries (length f + 1) ds) k (omega (arith, length-original_entries 1 f))
       ∙ at_original 1 f k (k + 1) lt (omega arith)
 
+  -- the next ones are those of the derived clauses
   pub derived_there : (k p : ℕ) → k < length ds → p ≡ length f + k → slice_get (trace_of f ds) p ≡ Some (derived_entry (p + 1) (derived_at ds k))
   derived_there k p lt e =
       back (original_entries 1 f) (derived_entries (length f + 1) ds) p k (omega (arith, length-original_entries 1 f))
@@ -79,15 +88,18 @@ module _ (f : List Lits) (ds : List Derived) where
         ∙ ap Some (sym (clause_with-derived f ds (p + 1) (p - length f) (omega arith) (omega arith)))
   ]
 
+  -- so the literals of each entry are those of the log's clause with that index
   lits-trace_of : (p : ℕ) → p < length f + length ds → LitsOf (trace_of f ds) p ≡ Some (clause_with f ds (p + 1))
   lits-trace_of p lt = lits_stated (trace_of f ds) p (clause_with f ds (p + 1)) (stated-trace_of p lt)
 
 -- ---- one more clause
 
+-- one more clause of the formula has its entry behind the others
 original_entries-more : (i j : ℕ) (f : List Lits) (c : Lits) → j ≡ i + length f → original_entries i (f ++ c ∷ []) ≡ original_entries i f ++ original_entry j c ∷ []
 original_entries-more i j [] c e = ap (λ n. original_entry n c ∷ []) (let same : i ≡ j = omega arith in same)
 original_entries-more i j (b ∷ bs) c e = ap (λ es. original_entry i b ∷ es) (original_entries-more (i + 1) j bs c (omega arith))
 
+-- one more derived clause has its entry behind the others
 derived_entries-more : (i j : ℕ) (ds : List Derived) (d : Derived) → j ≡ i + length ds → derived_entries i (ds ++ d ∷ []) ≡ derived_entries i ds ++ derived_entry j d ∷ []
 derived_entries-more i j [] d e = ap (λ n. derived_entry n d ∷ []) (let same : i ≡ j = omega arith in same)
 derived_entries-more i j (c ∷ cs) d e = ap (λ es. derived_entry i c ∷ es) (derived_entries-more (i + 1) j cs d (omega arith))
@@ -108,6 +120,7 @@ trace_of-derived f ds d j e =
 
 -- ---- no clause is faulty
 
+-- what is left of a chain that comes to the stated clause has no faulty step
 chain_ends : (index : ℕ) (c : Lits) (step : ℕ) (r : Lits) (cs : List Lits) → Chain r cs c → ChainEnds index (Some c) step r cs (Ok tt)
 chain_ends index c step r [] h = inl (h, refl)
 chain_ends index c step r (d ∷ ds) h = inr (inr (h.0, h.1, chain_ends index c (step + 1) h.0 ds h.2))
@@ -125,6 +138,7 @@ given_places g h (i ∷ is) same =
     ap (λ o. given_with o (all_given (map g (map place_with is)))) (same i (inl refl))
     ∙ ap (given_with (Some (h i))) (given_places g h is (λ j m. same j (inr m)))
 
+-- a derived clause has no fault where it follows from the clauses of its antecedents
 fault_derived : (f : List Lits) (t : List Entry) (w k : ℕ) (ps : List ℕ) (cs : List Lits) (c : Lits) → ps ≢ []
     → antecedent_lits t k ≡ Some cs → stated_at t k ≡ Some c → Resolves cs c → FaultWith f t w k ps None
 fault_derived f t w k [] cs c some given stated h = absurd (some refl)
@@ -147,6 +161,7 @@ Has-get_or (x ∷ xs) zero d lt = inl refl
 Has-get_or (x ∷ xs) (suc k) d lt = inr (Has-get_or xs k d (omega arith))
 
 module _ (f : List Lits) (ds : List Derived) (w : ℕ) (ok : LogOk f ds) where
+  -- the entry of a clause of the formula has no fault, since it states that clause
   original_right : (k : ℕ) → k < length f → FaultWith f (trace_of f ds) w k (antecedents_at (trace_of f ds) k) None
   original_right k lt =
       subst (λ ps. FaultWith f (trace_of f ds) w k ps None) (sym (ap antecedents_of (original_there f ds k lt)))
@@ -155,6 +170,7 @@ module _ (f : List Lits) (ds : List Derived) (w : ℕ) (ok : LogOk f ds) where
         refl,
       ))
 
+  -- the entry of a derived clause has the clauses for antecedents that its indices name in the log
   given_there : (k p : ℕ) → k < length ds → p ≡ length f + k
       → antecedent_lits (trace_of f ds) p ≡ Some (map (clause_with f ds) (derived_at ds k).antecedents)
   given_there k p lt e =
@@ -166,6 +182,7 @@ module _ (f : List Lits) (ds : List Derived) (w : ℕ) (ok : LogOk f ds) where
       let high = range.1 in
       lits-trace_of f ds (place_with i) (omega arith) ∙ ap (λ n. Some (clause_with f ds n)) (let same : i - 1 + 1 ≡ i = omega arith in same))
 
+  -- the entry of a derived clause has no fault, since the log's chain comes to it
   derived_right : (k p : ℕ) → k < length ds → p ≡ length f + k → FaultWith f (trace_of f ds) w p (antecedents_at (trace_of f ds) p) None
   derived_right k p lt e =
       let d = derived_at ds k in
@@ -174,12 +191,14 @@ module _ (f : List Lits) (ds : List Derived) (w : ℕ) (ok : LogOk f ds) where
       (some_places (clause_with f ds) d.antecedents d.lits (ok.resolves k lt))
       (given_there k p lt e) (ap stated_of (derived_there f ds k p lt e)) (ok.resolves k lt))
 
+  -- so no entry of the trace has a fault
   pub trace_right : AllRightBefore f (trace_of f ds) w (length (trace_of f ds))
   trace_right k lt = elim (cases_lt k (length f)) [
     | inl first ↦ original_right k first
     | inr later ↦ derived_right (k - length f) k (omega (arith, length-trace_of f ds)) (omega arith)
   ]
 
+  -- and where the last clause of the log is the empty one, the trace refutes the formula
   pub trace_refutes : EndsWithEmpty f ds → VerdictOf f (trace_of f ds) w Verdict.Refutes
   trace_refutes ends =
       let long = length-trace_of f ds in

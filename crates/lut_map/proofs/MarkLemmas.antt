@@ -104,9 +104,11 @@ place_of [] x h = absurd h
 place_of (y ∷ xs) x (inl e) = (0, omega arith, e)
 place_of (y ∷ xs) x (inr m) = let at = place_of xs x m in (suc at.0, let lt : at.0 < length xs = at.1 in omega arith, at.2)
 
+-- a place that isn't before another, and isn't the same, is behind it
 later_than : (j m : ℕ) → j ≤ m → (m ≡ j → ⊥) → j < m
 later_than j m le other = ⊎_elim (λ lt. lt) (λ ge. absurd (other (omega arith))) (cases_lt j m)
 
+-- no test is true and false
 both_ways : {b : Bool} → b ≡ false → b ≡ true → ⊥
 both_ways e f = cc
 

@@ -86,6 +86,7 @@ get_or-part f (suc n) v i lt within =
     subst P e (get_or-append-add (joined n f) (f n) i no_cell))
     (cases_lt v n)
 
+-- so cell i of a node stands i places behind the node's first cell
 get_or-own : (net : Network) (needed : ℕ → Bool) (n v i : ℕ) → v < n → i < length (own_cells net needed v)
     → get_or (joined n (own_cells net needed)) (first_cell net needed v + i) no_cell ≡ get_or (own_cells net needed v) i no_cell
 get_or-own net needed n v i lt within =

@@ -29,12 +29,14 @@ IsSettledCell-later l (suc m) (suc n) k le h = (
 abbrev Agree : MappedValue → ℕ → List ℕ → List ℕ → Type 0
 Agree l rounds p q = (k : ℕ) → IsSettledCell l rounds k → get_or p k 0 ≡ get_or q k 0
 
+-- where two lists agree at the cells of a set, a source among them has the same bit in both
 source-agree : (inputs : ℕ) (P : ℕ → Type 0) (x p q : List ℕ) (s : Source) → ((k : ℕ) → P k → get_or p k 0 ≡ get_or q k 0)
     → IsSourceAmong inputs P s → source_bit x p s ≡ source_bit x q s
 source-agree inputs P x p q Zero f h = refl
 source-agree inputs P x p q (Pad n) f h = refl
 source-agree inputs P x p q (Cell k) f h = f k h
 
+-- and so has each of several sources
 sources-agree : (inputs : ℕ) (P : ℕ → Type 0) (x p q : List ℕ) (ss : List Source) → ((k : ℕ) → P k → get_or p k 0 ≡ get_or q k 0)
     → All (IsSourceAmong inputs P) ss → source_bits x p ss ≡ source_bits x q ss
 sources-agree inputs P x p q [] f h = refl
@@ -53,10 +55,12 @@ chosen-agree l rounds x p q k h settled =
 next_bits : MappedValue → List ℕ → List ℕ → List ℕ
 next_bits l x p = map (chosen_bit x p) l.cells
 
+-- each cell has the bit that its pins choose
 next_bits-at : (l : MappedValue) (x p : List ℕ) (k : ℕ) → k < length l.cells → get_or (next_bits l x p) k 0 ≡ chosen_bit x p (mapped_cell l k)
 unfolding next_bits
 next_bits-at l x p k lt = get_or-map (chosen_bit x p) l.cells k no_cell 0 lt
 
+-- there is a bit for each cell
 length-next_bits : (l : MappedValue) (x p : List ℕ) → length (next_bits l x p) ≡ length l.cells
 unfolding next_bits
 length-next_bits l x p = length-map l.cells (chosen_bit x p)
@@ -66,11 +70,13 @@ bits_after : MappedValue → List ℕ → ℕ → List ℕ
 bits_after l x zero = next_bits l x []
 bits_after l x (suc n) = next_bits l x (bits_after l x n)
 
+-- after every round there is a bit for each cell
 length-bits_after : (l : MappedValue) (x : List ℕ) (n : ℕ) → length (bits_after l x n) ≡ length l.cells
 unfolding bits_after
 length-bits_after l x zero = length-next_bits l x []
 length-bits_after l x (suc n) = length-next_bits l x (bits_after l x n)
 
+-- one more round gives each cell its bit from those of the round before
 bits_after-suc : (l : MappedValue) (x : List ℕ) (n : ℕ) → bits_after l x (suc n) ≡ next_bits l x (bits_after l x n)
 unfolding bits_after
 bits_after-suc l x n = refl
@@ -99,6 +105,7 @@ bits-exist l x settled =
       },
     )
 
+-- two solutions agree at the cells that are settled after so many rounds
 solutions-agree : (l : MappedValue) (x a b : List ℕ) → MappedBits l x a → MappedBits l x b → (n : ℕ) → Agree l n a b
 solutions-agree l x a b p q zero k settled = absurd settled
 solutions-agree l x a b p q (suc n) k settled =

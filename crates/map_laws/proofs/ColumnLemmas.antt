@@ -11,6 +11,7 @@ use Rattle.map_defs.specs.Columns.{column_after, AreColumns}
 abbrev Agree : MappedValue → ℕ → List ℕ → List ℕ → Type 0
 Agree l rounds p q = (k : ℕ) → IsSettledCell l rounds k → get_or p k 0 ≡ get_or q k 0
 
+-- where two lists agree at the cells of a set, the column after pins among them is the same by both
 column-agree : (inputs : ℕ) (P : ℕ → Type 0) (p q : List ℕ) (ss : List Source) → ((k : ℕ) → P k → get_or p k 0 ≡ get_or q k 0)
     → All (IsSourceAmong inputs P) ss → column_after p ss ≡ column_after q ss
 column-agree inputs P p q [] f h = refl
@@ -29,11 +30,13 @@ after-agree l rounds p q k h settled = column-agree l.inputs (IsSettledCell l ro
 next_columns : MappedValue → List ℕ → List ℕ
 next_columns l p = map (λ (cell : CellValue). column_after p cell.pins) l.cells
 
+-- each cell has the column that comes after its pins
 next_columns-at : (l : MappedValue) (p : List ℕ) (k : ℕ) → k < length l.cells
     → get_or (next_columns l p) k 0 ≡ column_after p (mapped_cell l k).pins
 unfolding next_columns
 next_columns-at l p k lt = get_or-map (λ (cell : CellValue). column_after p cell.pins) l.cells k no_cell 0 lt
 
+-- there is a column for each cell
 length-next_columns : (l : MappedValue) (p : List ℕ) → length (next_columns l p) ≡ length l.cells
 unfolding next_columns
 length-next_columns l p = length-map l.cells (λ (cell : CellValue). column_after p cell.pins)
@@ -43,11 +46,13 @@ columns_after : MappedValue → ℕ → List ℕ
 columns_after l zero = next_columns l []
 columns_after l (suc n) = next_columns l (columns_after l n)
 
+-- after every round there is a column for each cell
 length-columns_after : (l : MappedValue) (n : ℕ) → length (columns_after l n) ≡ length l.cells
 unfolding columns_after
 length-columns_after l zero = length-next_columns l []
 length-columns_after l (suc n) = length-next_columns l (columns_after l n)
 
+-- one more round gives each cell its column from those of the round before
 columns_after-suc : (l : MappedValue) (n : ℕ) → columns_after l (suc n) ≡ next_columns l (columns_after l n)
 unfolding columns_after
 columns_after-suc l n = refl
@@ -76,6 +81,7 @@ columns-exist l settled =
       },
     )
 
+-- two lists of columns agree at the cells that are settled after so many rounds
 solutions-agree : (l : MappedValue) (a b : List ℕ) → AreColumns l a → AreColumns l b → (n : ℕ) → Agree l n a b
 solutions-agree l a b p q zero k settled = absurd settled
 solutions-agree l a b p q (suc n) k settled =

@@ -68,14 +68,17 @@ abbrev both : Gate → Bool → Bool → Bool
 both Conjunction p q = p && q
 both Disjunction p q = p || q
 
+-- in a conjunction of three it is the same which two are joined first
 and_grouped : (p q r : Bool) → (p && (q && r)) ≡ ((p && q) && r)
 and_grouped true q r = refl
 and_grouped false q r = refl
 
+-- and so it is in a disjunction
 or_grouped : (p q r : Bool) → (p || (q || r)) ≡ ((p || q) || r)
 or_grouped true q r = refl
 or_grouped false q r = refl
 
+-- what a gate says of two lists of terms together is what it says of each, joined
 truth-append : (gate : Gate) (x a : List ℕ) (s t : List Term) → truth gate x a (s ++ t) ≡ both gate (truth gate x a s) (truth gate x a t)
 truth-append Conjunction x a [] t = refl
 truth-append Conjunction x a (u ∷ s) t =
@@ -86,10 +89,12 @@ truth-append Disjunction x a (u ∷ s) t =
     ap (λ b. holds x a u || b) (truth-append Disjunction x a s t)
     ∙ or_grouped (holds x a u) (truth Disjunction x a s) (truth Disjunction x a t)
 
+-- a truth that is joined with a true one by `and` stays
 and_true : (p : Bool) → (p && true) ≡ p
 and_true true = refl
 and_true false = refl
 
+-- and with a false one by `or`
 or_false : (p : Bool) → (p || false) ≡ p
 or_false true = refl
 or_false false = refl
@@ -138,6 +143,7 @@ group_term-truth gate x a number ts small le h =
     ∙ bit_of-one (truth gate x a ts))
     (cases_Bool (length ts == 1))
 
+-- an empty list has no first elements
 take-nil : {X : Type 0} (m : ℕ) → take {A = X} m [] ≡ []
 take-nil zero = refl
 take-nil (suc m) = refl
@@ -159,6 +165,7 @@ length-group-full : (ts : List Term) (i : ℕ) → suc i < group_count ts → le
 length-group-full ts i lt =
     length-take-le GROUP (drop (GROUP * i) ts) (omega (arith, length-drop (GROUP * i) ts))
 
+-- a full group becomes one cell
 length-group_cells : (gate : Gate) (ts : List Term) → length ts ≡ GROUP → length (group_cells gate ts) ≡ 1
 length-group_cells gate ts e =
     ap length (cond-false (length ts == 1) [] (gate_cell gate false ts ∷ []) (ne_eqb (length ts) 1 (λ f. absurd (omega arith))))
@@ -237,6 +244,7 @@ HasGateBit gate negated x a next ts cells =
     get_or a (next + (length cells - 1)) 0
     ≡ bit_of (if negated then not (truth gate x a ts) else truth gate x a ts)
 
+-- where the terms are few, the one cell of the gate has the gate's bit
 gate_cell-last : (gate : Gate) (negated : Bool) (x a : List ℕ) (next : ℕ) (ts : List Term) → HaveBits x a → length ts ≤ GROUP
     → Obey x a next (gate_cell gate negated ts ∷ []) → HasGateBit gate negated x a next ts (gate_cell gate negated ts ∷ [])
 gate_cell-last gate negated x a next ts small le h =

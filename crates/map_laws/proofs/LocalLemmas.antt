@@ -35,6 +35,7 @@ pub record IsLocal (pads end : ℕ) (cell : CellValue) : Type 0 where
 abbrev pub AreLocal : ℕ → ℕ → List CellValue → Type 0
 AreLocal pads next cells = (i : ℕ) → i < length cells → IsLocal pads (next + i) (get_or cells i no_cell)
 
+-- cells and those behind them all listen below their own numbers, if both lists do
 AreLocal-append : (pads next : ℕ) (p q : List CellValue) → AreLocal pads next p → AreLocal pads (next + length p) q → AreLocal pads next (p ++ q)
 AreLocal-append pads next p q h k i lt =
     ⊎_elim
@@ -48,6 +49,7 @@ AreLocal-append pads next p q h k i lt =
     (subst Q e (k j (omega (arith, length-append p q)))))
     (cases_lt i (length p))
 
+-- and so does a single cell that listens below its number
 AreLocal-one : (pads next : ℕ) (cell : CellValue) → IsLocal pads next cell → AreLocal pads next (cell ∷ [])
 AreLocal-one pads next cell h zero lt = let P : ℕ → Type 0 = λ n. IsLocal pads n cell in subst P (let e : next ≡ next + 0 = omega arith in e) h
 AreLocal-one pads next cell h (suc i) lt = absurd (omega arith)
@@ -62,11 +64,13 @@ IsSourceBelow-more pads m n (Cell k) le h = let lt : k < m = h in let more : k <
 abbrev AreBelow : ℕ → ℕ → List Term → Type 0
 AreBelow pads end terms = All (λ (t : Term). IsSourceBelow pads end t.source) terms
 
+-- terms below a number are below each greater one
 AreBelow-more : (pads m n : ℕ) (terms : List Term) → m ≤ n → AreBelow pads m terms → AreBelow pads n terms
 AreBelow-more pads m n terms le h =
     All-weaker (λ (t : Term). IsSourceBelow pads m t.source) (λ (t : Term). IsSourceBelow pads n t.source)
     (λ t b. IsSourceBelow-more pads m n t.source le b) terms h
 
+-- the cell that joins few terms listens below a number, if they are below it
 gate_cell-local : (gate : Gate) (negated : Bool) (pads end : ℕ) (terms : List Term) → length terms ≤ GROUP → AreBelow pads end terms
     → IsLocal pads end (gate_cell gate negated terms)
 gate_cell-local gate negated pads end terms le h =
@@ -84,11 +88,13 @@ gate_cell-local gate negated pads end terms le h =
       pins = All-map (IsSourceBelow pads end) (λ (t : Term). t.source) terms h;
     }
 
+-- the terms of a group are below, if all terms are
 AreBelow-group : (pads end : ℕ) (terms : List Term) (i : ℕ) → AreBelow pads end terms → AreBelow pads end (group terms i)
 AreBelow-group pads end terms i h =
     let P : Term → Type 0 = λ t. IsSourceBelow pads end t.source in
     All-take P GROUP (drop (GROUP * i) terms) (All-drop P (GROUP * i) terms h)
 
+-- so the cell of a group, if it has one, listens below its own number
 group_cells-local : (gate : Gate) (pads end : ℕ) (terms : List Term) → length terms ≤ GROUP → AreBelow pads end terms
     → AreLocal pads end (group_cells gate terms)
 group_cells-local gate pads end terms le h =
@@ -100,6 +106,7 @@ group_cells-local gate pads end terms le h =
     (AreLocal-one pads end (gate_cell gate false terms) (gate_cell-local gate false pads end terms le h)))
     (cases_Bool (length terms == 1))
 
+-- and so do the cells of the first groups
 first_cells-local : (gate : Gate) (pads next : ℕ) (terms : List Term) (m : ℕ) → m ≤ group_count terms → AreBelow pads next terms
     → AreLocal pads next (joined m (λ i. group_cells gate (group terms i)))
 first_cells-local gate pads next terms zero le h = λ i lt. absurd (omega arith)
@@ -111,6 +118,7 @@ first_cells-local gate pads next terms (suc m) le h =
     (group_cells-local gate pads end (group terms m) (length-group terms m)
     (AreBelow-group pads end terms m (AreBelow-more pads next end terms (omega arith) h)))
 
+-- and those of all groups
 round_cells-local : (gate : Gate) (pads next : ℕ) (terms : List Term) → AreBelow pads next terms → AreLocal pads next (round_cells gate terms)
 round_cells-local gate pads next terms h = first_cells-local gate pads next terms (group_count terms) (omega arith) h
 
@@ -154,6 +162,7 @@ round_terms-below gate pads next terms h =
     subst P (sym (cond-false (length g == 1) one cell e)) below)
     (cases_Bool (length g == 1)))
 
+-- the cells of a gate listen below their own numbers, if its terms are below the first one
 gate_cells_in-local : (rounds : ℕ) (gate : Gate) (negated : Bool) (pads next : ℕ) (terms : List Term) → length terms ≤ rounds + GROUP
     → AreBelow pads next terms → AreLocal pads next (gate_cells_in rounds gate negated next terms)
 gate_cells_in-local zero gate negated pads next terms le h =
@@ -171,6 +180,7 @@ gate_cells_in-local (suc rounds) gate negated pads next terms le h =
     (AreLocal-one pads next (gate_cell gate negated terms) (gate_cell-local gate negated pads next terms few h)))
     (cases_lt GROUP (length terms))
 
+-- what a row asks is asked of the node's fan-ins
 row_terms-below : (pads end pin : ℕ) (row : List Mark) → pin + length row ≤ pads → AreBelow pads end (row_terms pin row)
 row_terms-below pads end pin [] le = All-nil (λ (t : Term). IsSourceBelow pads end t.source)
 row_terms-below pads end pin (Off ∷ row) le =
@@ -183,11 +193,13 @@ row_terms-below pads end pin (One ∷ row) le =
     (row_terms-below pads end (suc pin) row (omega arith))
 row_terms-below pads end pin (Any ∷ row) le = row_terms-below pads end (suc pin) row (omega arith)
 
+-- so the cells of a row listen below their own numbers
 row_cells-local : (pads next : ℕ) (row : List Mark) → length row ≡ pads → AreLocal pads next (row_cells next row)
 row_cells-local pads next row e =
     gate_cells_in-local (length (row_terms 0 row)) Conjunction false pads next (row_terms 0 row) (omega arith)
     (row_terms-below pads next 0 row (omega arith))
 
+-- and so do those of several rows
 rows_cells-local : (pads next : ℕ) (rows : List (List Mark)) → All (λ row. length row ≡ pads) rows → AreLocal pads next (rows_cells next rows)
 rows_cells-local pads next [] e = λ i lt. absurd (omega arith)
 rows_cells-local pads next (row ∷ rows) e =
@@ -196,9 +208,11 @@ rows_cells-local pads next (row ∷ rows) e =
     (row_cells-local pads next row (e 0 [] (omega arith)))
     (rows_cells-local pads (next + length first) rows (λ k d lt. e (suc k) d (omega arith)))
 
+-- a row has a cell
 row_cells-some : (next : ℕ) (row : List Mark) → 0 < length (row_cells next row)
 row_cells-some next row = gate_cells_in-some (length (row_terms 0 row)) Conjunction false next (row_terms 0 row)
 
+-- the last cell of each row is below the cell that comes after those of all rows
 rows_terms-below : (pads next : ℕ) (rows : List (List Mark)) → AreBelow pads (next + length (rows_cells next rows)) (rows_terms next rows)
 rows_terms-below pads next [] = All-nil (λ (t : Term). IsSourceBelow pads (next + 0) t.source)
 rows_terms-below pads next (row ∷ rows) =
@@ -212,6 +226,7 @@ rows_terms-below pads next (row ∷ rows) =
     (AreBelow-more pads (next + length first + length rest) end (rows_terms (next + length first) rows)
     (omega (arith, length-append first rest)) (rows_terms-below pads (next + length first) rows))
 
+-- the cells of a node with many fan-ins listen below their own numbers
 joined_cells-local : (node : Node) → All (λ row. length row ≡ length node.fan_ins) node.rows
     → AreLocal (length node.fan_ins) 0 (joined_cells node)
 joined_cells-local node e =
@@ -225,6 +240,7 @@ joined_cells-local node e =
     (rows_cells-local pads 0 node.rows e)
     (subst P z (gate_cells_in-local (length terms) Disjunction (not node.on) pads (length rows) terms (omega arith) below))
 
+-- the one cell of a node with few fan-ins listens to these alone
 direct_cell-local : (node : Node) → length node.fan_ins ≤ GROUP → IsLocal (length node.fan_ins) 0 (direct_cell node)
 direct_cell-local node le =
     let count = length node.fan_ins in

@@ -120,6 +120,7 @@ source_in-bit x a s fan_ins source_of first end (Pad j) h below =
     h j below ∙ sym (get_or-map (λ t. get_or s t 0) fan_ins j 0 0 below)
 source_in-bit x a s fan_ins source_of first end (Cell i) h below = sym (get_or-drop first a i 0)
 
+-- and so has each of several sources
 sources_in-bits : (x a s fan_ins : List ℕ) (source_of : ℕ → Source) (first end : ℕ) (cs : List Source)
     → ((j : ℕ) → j < length fan_ins → source_bit x a (source_of (get_or fan_ins j 0)) ≡ get_or s (get_or fan_ins j 0) 0)
     → All (IsSourceBelow (length fan_ins) end) cs
@@ -146,10 +147,12 @@ record AllBits (net : Network) (needed : ℕ → Bool) (x s a : List ℕ) : Type
   settles : Settles net x s
   mapped : MappedBits (mapping net needed) x a
 
+-- the signal of an input has the input's bit
 input-bit : (net : Network) (x s : List ℕ) (t : ℕ) → Settles net x s → t < length net.inputs → get_or x t 0 ≡ get_or s t 0
 input-bit net x s t h lt =
     ap (λ l. get_or l t 0) (sym h.inputs) ∙ get_or-take (length net.inputs) s t 0 lt
 
+-- the bits of all signals are bits
 signals-small : (net : Network) (x s : List ℕ) → IsBits (length net.inputs) x → Settles net x s → (t : ℕ) → get_or s t 0 ≤ 1
 signals-small net x s bits h =
     small_elements s
@@ -165,6 +168,7 @@ signals-small net x s bits h =
     subst P place (omega arith))
     (cases_lt t (length net.inputs)))
 
+-- and so are those of all cells
 cells-small : (l : MappedValue) (x a : List ℕ) → MappedBits l x a → (k : ℕ) → get_or a k 0 ≤ 1
 cells-small l x a h =
     small_elements a
@@ -272,6 +276,7 @@ output-bit net needed x s a t h lt has =
     ∙ ap (λ m. get_or s m 0) place)
     (cases_lt t (length net.inputs))
 
+-- the sources of outputs have the bits of their signals
 outputs-bits : (net : Network) (needed : ℕ → Bool) (x s a ts : List ℕ) → AllBits net needed x s a
     → ((t : ℕ) → Has ts t → (t < signals net) × Has (output_signals net) t)
     → source_bits x a (map (signal_source net needed) ts) ≡ bits_at s ts

@@ -20,11 +20,13 @@ use Rattle.map_defs.specs.NodeCells.{direct_cell, row_terms, row_cells, rows_cel
 use Rattle.map_laws.proofs.TableLemmas.{table_bit-table_of}
 use Rattle.map_laws.proofs.GateLemmas.{HaveBits, Obey, Obey-left, Obey-right, AreBits-sources, truth, bit_of-one, gate_cells_in-some, gate_cells_in-last}
 
+-- where bits stand in a list from a place on, the first of them stands at that place
 first_bit : (x : List ℕ) (pin b : ℕ) (bs : List ℕ) → ((j : ℕ) → j < length (b ∷ bs) → get_or x (pin + j) 0 ≡ get_or (b ∷ bs) j 0)
     → get_or x pin 0 ≡ b
 first_bit x pin b bs h =
     ap (λ k. get_or x k 0) (let e : pin ≡ pin + 0 = omega arith in e) ∙ h 0 (omega arith)
 
+-- and the others from the next place on
 later_bits : (x : List ℕ) (pin b : ℕ) (bs : List ℕ) → ((j : ℕ) → j < length (b ∷ bs) → get_or x (pin + j) 0 ≡ get_or (b ∷ bs) j 0)
     → (j : ℕ) → j < length bs → get_or x (suc pin + j) 0 ≡ get_or bs j 0
 later_bits x pin b bs h j lt =
@@ -68,6 +70,7 @@ rows-truth x a next (row ∷ rows) small e h =
     ∙ ap (λ b. hits row x || b)
     (rows-truth x a (next + length first) rows small (λ k d lt. e (suc k) d (omega arith)) (Obey-right x a next first rest h))
 
+-- whether some row hits, negated where the node is off then, is the node's bit
 node_bit-joined : (some on : Bool) → bit_of (if not on then not some else some)
     ≡ (if some then (if on then 1 else 0) else (if on then 0 else 1))
 node_bit-joined true true = refl
@@ -91,6 +94,7 @@ joined-bit node x a small e h =
     ∙ ap (λ b. bit_of (if not node.on then not b else b)) (rows-truth x a 0 node.rows small e (Obey-left x a 0 rows last h))
     ∙ node_bit-joined (some_row_hits node x) node.on
 
+-- whether a row hits or not, the bit that a node has then is at most 1
 at_most : (some on : Bool) → (if some then (if on then 1 else 0) else (if on then 0 else 1)) ≤ 1
 at_most true true = omega arith
 at_most true false = omega arith

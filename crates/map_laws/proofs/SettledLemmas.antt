@@ -57,6 +57,7 @@ source_in-settled net needed k rounds v i (Pad j) closed last settled e own belo
     subst P (sym (signal_source-node net needed t past)) (last u earlier member))
     (cases_lt t (length net.inputs))
 
+-- and so is each of several sources
 sources_in-settled : (net : Network) (needed : ℕ → Bool) (k rounds v i : ℕ) (cs : List Source) → HasFanIns net needed
     → LastAreSettled net needed k rounds → Settled net (suc k) v → needed v ≡ true
     → ((j : ℕ) → j < i → IsSettledCell (mapping net needed) rounds (first_cell net needed v + j))

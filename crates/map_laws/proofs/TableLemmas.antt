@@ -69,6 +69,7 @@ pub bit_at-table_of : (pins : ℕ) (f : List ℕ → ℕ) → ((bs : List ℕ) �
     → bit_at (table_of pins f) k ≡ f (bits_of pins k)
 bit_at-table_of pins f h k lt = bit_at-list_of TABLE_BITS (λ n. f (bits_of pins n)) (λ n. h (bits_of pins n)) k lt
 
+-- n bits that a function gives are a word below 2 ^ n
 word_of-list_of-lt : (n : ℕ) (f : ℕ → ℕ) → ((k : ℕ) → f k ≤ 1) → word_of (list_of n f) < 2 ^ n
 word_of-list_of-lt n f h =
     let P : ℕ → Type 0 = λ m. word_of (list_of n f) < 2 ^ m in
@@ -78,6 +79,7 @@ word_of-list_of-lt n f h =
 pub table_of-lt : (pins : ℕ) (f : List ℕ → ℕ) → ((bs : List ℕ) → f bs ≤ 1) → table_of pins f < 2 ^ TABLE_BITS
 table_of-lt pins f h = word_of-list_of-lt TABLE_BITS (λ n. f (bits_of pins n)) (λ n. h (bits_of pins n))
 
+-- a greater exponent gives no smaller power of 2
 pow_le : (i j : ℕ) → i ≤ j → 2 ^ i ≤ 2 ^ j
 pow_le i j le =
     ⊎_elim (λ lt. let less : 2 ^ i < 2 ^ j = pow_below i j lt in omega arith)

@@ -24,18 +24,22 @@ same_tests false false f g = refl
 abbrev Agree : Network → (ℕ → Bool) → (ℕ → Bool) → Type 0
 Agree net p q = (v : ℕ) → v < length net.nodes → p v ≡ q v
 
+-- two sets that are both the least one have the same nodes
 needed-agree : (net : Network) (p q : ℕ → Bool) → IsNeeded net p → IsNeeded net q → Agree net p q
 needed-agree net p q h k v lt = same_tests (p v) (q v) (h.least q k.closed v lt) (k.least p h.closed v lt)
 
+-- a node has the same cells by both tests, if they say the same of it
 own_cells-agree : (net : Network) (p q : ℕ → Bool) (v : ℕ) → p v ≡ q v → own_cells net p v ≡ own_cells net q v
 own_cells-agree net p q v e = ap (λ b. cond b (node_cells (node_at net v)) []) e
 
+-- the first cell of each node has the same number by both
 first_cell-agree : (net : Network) (p q : ℕ → Bool) → Agree net p q → (v : ℕ) → v ≤ length net.nodes → first_cell net p v ≡ first_cell net q v
 first_cell-agree net p q h zero le = refl
 first_cell-agree net p q h (suc v) le =
     ap (λ n. n + length (own_cells net p v)) (first_cell-agree net p q h v (omega arith))
     ∙ ap (λ l. first_cell net q v + length l) (own_cells-agree net p q v (h v (omega arith)))
 
+-- each signal has the same source by both
 signal_source-agree : (net : Network) (p q : ℕ → Bool) → Agree net p q → (s : ℕ) → s < signals net → signal_source net p s ≡ signal_source net q s
 signal_source-agree net p q h s lt =
     ⊎_elim
@@ -52,6 +56,7 @@ source_in-agree f g fan_ins first Zero h = refl
 source_in-agree f g fan_ins first (Pad j) h = h j
 source_in-agree f g fan_ins first (Cell i) h = refl
 
+-- and so do those of all pins of a cell
 pins-agree : (f g : ℕ → Source) (fan_ins : List ℕ) (first : ℕ) (ss : List Source) → ((j : ℕ) → f (get_or fan_ins j 0) ≡ g (get_or fan_ins j 0))
     → map (source_in f fan_ins first) ss ≡ map (source_in g fan_ins first) ss
 pins-agree f g fan_ins first [] h = refl
@@ -75,6 +80,7 @@ fan_in-within net v j h lt =
     (λ past. let e : get_or (node_at net v).fan_ins j 0 ≡ 0 = get_or_past (node_at net v).fan_ins j 0 past in omega arith)
     (cases_lt j (length (node_at net v).fan_ins))
 
+-- the cells of a node are the same among those of all nodes
 placed_cells-agree : (net : Network) (p q : ℕ → Bool) → IsNet net → Agree net p q → (v : ℕ) → v < length net.nodes
     → placed_cells net p v ≡ placed_cells net q v
 placed_cells-agree net p q is_net h v lt =
@@ -84,6 +90,7 @@ placed_cells-agree net p q is_net h v lt =
     ∙ ap (λ n. map (cell_in (signal_source net q) fan_ins n) (own_cells net p v)) (first_cell-agree net p q h v (omega arith))
     ∙ ap (map (cell_in (signal_source net q) fan_ins (first_cell net q v))) (own_cells-agree net p q v (h v lt))
 
+-- and so are the cells of the first nodes together
 cells_before-agree : (net : Network) (p q : ℕ → Bool) → IsNet net → Agree net p q → (v : ℕ) → v ≤ length net.nodes
     → cells_before net p v ≡ cells_before net q v
 cells_before-agree net p q is_net h zero le = refl
@@ -91,6 +98,7 @@ cells_before-agree net p q is_net h (suc v) le =
     ap (λ l. l ++ placed_cells net p v) (cells_before-agree net p q is_net h v (omega arith))
     ∙ ap (λ l. cells_before net q v ++ l) (placed_cells-agree net p q is_net h v (omega arith))
 
+-- several signals have the same sources by both
 sources-agree : (net : Network) (p q : ℕ → Bool) → Agree net p q → (ts : List ℕ) → ((k : ℕ) → k < length ts → get_or ts k 0 < signals net)
     → map (signal_source net p) ts ≡ map (signal_source net q) ts
 sources-agree net p q h [] within = refl
@@ -98,6 +106,7 @@ sources-agree net p q h (t ∷ ts) within =
     ap (λ s. s ∷ map (signal_source net p) ts) (signal_source-agree net p q h t (within 0 (omega arith)))
     ∙ ap (λ l. signal_source net q t ∷ l) (sources-agree net p q h ts (λ k lt. within (suc k) (omega arith)))
 
+-- so the mapping is the same by both
 mapping-agree : (net : Network) (p q : ℕ → Bool) → IsNet net → Agree net p q → mapping net p ≡ mapping net q
 mapping-agree net p q is_net h =
     ap (λ cells. let l : MappedValue = record { inputs = length net.inputs; cells = cells; outputs = map (signal_source net p) (output_signals net) } in l)

@@ -14,18 +14,23 @@ use Rattle.miter_places.proofs.SizeLemmas.{outputs_size}
 use Rattle.miter_places.proofs.JoinedLemmas.{joined_part, get_joined}
 
 module _ (net : Network) (cells : CellsValue) where
+  -- the clauses of all nodes
   nodes : List Lits
   nodes = joined (length net.nodes) (node_clauses net)
 
+  -- those of all cells
   parts : List Lits
   parts = joined (length cells.cells) (cell_clauses net cells)
 
+  -- those of all outputs
   outputs : List Lits
   outputs = joined (length net.outputs) (output_clauses net cells)
 
+  -- all clauses of the miter: those of both circuits, and the one that asks for a difference
   all : List Lits
   all = circuit_clauses net cells ++ some_difference net cells ∷ []
 
+  -- the first clause: the variable zero is false
   zero : Lits
   zero = negative zero_variable ∷ []
 
@@ -51,6 +56,7 @@ module _ (net : Network) (cells : CellsValue) where
 
   -- ---- what stands at a place of all clauses
 
+  -- the clause of the variable zero and those of the nodes come first
   at_front : (place : ℕ) → place < 1 + length nodes → get_or all place [] ≡ get_or (zero ∷ nodes) place []
   unfolding nodes parts outputs all zero
   at_front place lt =
@@ -60,6 +66,7 @@ module _ (net : Network) (cells : CellsValue) where
       ∙ get_or_append_left ((zero ∷ nodes) ++ parts) outputs [] place (omega arith)
       ∙ get_or_append_left (zero ∷ nodes) parts [] place (omega arith)
 
+  -- those of the cells come behind them
   at_parts : (i : ℕ) → i < length parts → get_or all (1 + length nodes + i) [] ≡ get_or parts i []
   unfolding nodes parts outputs all zero
   at_parts i lt =
@@ -70,6 +77,7 @@ module _ (net : Network) (cells : CellsValue) where
       ∙ ap (λ n. get_or ((zero ∷ nodes) ++ parts) n []) (let same : 1 + length nodes + i ≡ length (zero ∷ nodes) + i = omega arith in same)
       ∙ get_or-append-add (zero ∷ nodes) parts i []
 
+  -- and those of the outputs behind all these
   at_outputs : (i place : ℕ) → place ≡ 1 + length nodes + length parts + i → i < length outputs → get_or all place [] ≡ get_or outputs i []
   unfolding nodes parts outputs all zero
   at_outputs i place e lt =
@@ -81,10 +89,12 @@ module _ (net : Network) (cells : CellsValue) where
 
   -- ---- the clauses of each part
 
+  -- the clause of the variable zero has the first number
   pub zero_clause : clause_numbered (Miter net cells).clauses number_of_zero ≡ clause_of (negative zero_variable ∷ [])
   unfolding nodes zero
   zero_clause = numbered 1 0 (omega arith) (omega arith) ∙ ap clause_of (at_front 0 (omega arith))
 
+  -- clause i of node v, those of its rows among them
   node_clause : (v i : ℕ) → v < length net.nodes → i < length (node_clauses net v)
       → clause_numbered (Miter net cells).clauses (first_of_node net v + i) ≡ clause_of (get_or (node_clauses net v) i [])
   unfolding nodes parts outputs zero

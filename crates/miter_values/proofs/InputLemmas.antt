@@ -130,18 +130,22 @@ module _ (c : Circuits) (x : List ℕ) (start zeroed noded celled : Evaluated) (
   ]
 
   module _ (node_grows : Grows (circuits_of c.net c.cells) zeroed noded (IsOfSomeNode c.net)) where
+    -- the inputs have values still where the nodes have theirs
     pub noded_inputs : (i : ℕ) → i < length c.net.inputs → Has noded.order (signal_variable i)
     noded_inputs i lt = (node_grows.known (signal_variable i)).1 (inl (zeroed_inputs i lt))
 
+    -- and so has the variable zero
     pub noded_zero : Has noded.order zero_variable
     noded_zero = (node_grows.known zero_variable).1 (inl ((zero_grows.known zero_variable).1 (inr refl)))
 
+    -- no variable behind those of the nodes has one yet
     pub noded_low : (u : ℕ) → Has noded.order u → u < 2 + signals c.net + row_count c.net
     noded_low u here = elim ((node_grows.known u).0 here) [
       | inl old ↦ let low = zeroed_low u old in omega arith
       | inr new ↦ node_high c.net new.0 u new.1 new.2
     ]
 
+    -- once the cells have values too, both circuits are done
     pub celled_done : Grows (circuits_of c.net c.cells) noded celled (IsOfCells c.net c.cells (cell_count c.cells.geometry)) → AreDone c celled
     celled_done grows =
         let count = are.are_cells.cone.count in

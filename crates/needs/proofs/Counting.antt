@@ -24,6 +24,7 @@ passed spans c = count_by (is_passed c) spans
 abbrev pub begins_at : ℕ → Span → Bool
 begins_at c s = ltb s.first s.end && eqb s.first c
 
+-- live on some channel, the last of which is the one before c
 abbrev pub ends_at : ℕ → Span → Bool
 ends_at c s = ltb s.first s.end && eqb s.end c
 
@@ -31,6 +32,7 @@ ends_at c s = ltb s.first s.end && eqb s.end c
 abbrev pub is_going : ℕ → Span → Bool
 is_going c s = ltb s.first c && ltb c s.end
 
+-- how many signals are live on the channel before c and on c too
 abbrev pub going : List Span → ℕ → ℕ
 going spans c = count_by (is_going c) spans
 
@@ -80,6 +82,7 @@ passed_next (s ∷ spans) c =
       next_one s.first s.end c,
     )
 
+-- so no signal comes to channel 0
 pub passed_none : (spans : List Span) → passed spans 0 ≡ 0
 passed_none [] = refl
 passed_none (s ∷ spans) =
@@ -102,6 +105,7 @@ need-le spans c = count_by-le-length (is_live c) spans
 pub begun-le : (spans : List Span) (i c : ℕ) → i ≤ length spans → begun (take i spans) c ≤ i
 begun-le spans i c le = omega (arith, count_by-le-length (begins_at c) (take i spans), length-take-le i spans le)
 
+-- of the first i signals no more than i end
 pub ended-count-le : (spans : List Span) (i c : ℕ) → i ≤ length spans → ended (take i spans) c ≤ i
 ended-count-le spans i c le = omega (arith, count_by-le-length (ends_at c) (take i spans), length-take-le i spans le)
 

@@ -38,14 +38,17 @@ module _ (run : Lits) (order : List ℕ) (slots : List (Option Place)) (i to kep
         | inr high ↦ let a = high.0 in let b = (closing.in_order.entry n p is some).0 in absurd (omega arith)
       ]
 
+  -- a block whose words were moved ends by the end of the moved ones
   end_of : (s : Option Place) → ((p : Place) → s ≡ Some p → 0 < p.len → (p.at < kept) × (p.start + p.len ≤ to)) → EndsBy to s
   end_of None moved = tt
   end_of (Some p) moved = λ some. (moved p refl some).1
 
+  -- so each block does
   closed_by : (n : ℕ) → EndsBy to (place_of slots n)
   closed_by n = end_of (place_of slots n) (all_moved n)
 
   module _ (few : kept ≤ length order) where
+    -- what is left of the run has as many words as were moved
     run_long : length (take to run) ≡ to
     run_long = length-take-le to run closing.inside
 
@@ -53,6 +56,7 @@ module _ (run : Lits) (order : List ℕ) (slots : List (Option Place)) (i to kep
     pub closed_ends : EachEndsBy (length (take to run)) slots
     closed_ends n = subst (λ end. EndsBy end (place_of slots n)) (sym run_long) (closed_by n)
 
+    -- and what is left of the order has as many entries as were kept
     order_long : length (take kept order) ≡ kept
     order_long = length-take-le kept order few
 
@@ -74,6 +78,7 @@ module _ (run : Lits) (order : List ℕ) (slots : List (Option Place)) (i to kep
   pub closed_blocks : blocks_in (take to run) slots ≡ blocks_in run slots
   closed_blocks = blocks_changed run (take to run) slots slots refl (λ n. block_kept to run (place_of slots n) (closed_by n))
 
+  -- each block counts with all its words, since its entry was kept
   weight_is : (s : Option Place) → ((p : Place) → s ≡ Some p → 0 < p.len → (p.at < kept) × (p.start + p.len ≤ to))
       → size (block_in run s) ≡ kept_words kept s
   weight_is None moved = refl

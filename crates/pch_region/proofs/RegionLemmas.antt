@@ -45,9 +45,11 @@ module _ (held : List (Option Lits)) (unused : List ℕ) (words live : ℕ) (nam
     pub in_range : name < length held
     in_range = (named.dead last (omega arith)).0
 
+    -- one name fewer is unused
     shorter : length (take last unused) ≡ last
     shorter = length-take-le last unused (omega arith)
 
+    -- the others stay at their entries
     kept_name : (k : ℕ) → k < last → get_or (take last unused) k 0 ≡ get_or unused k 0
     kept_name k lt = get_or-take last unused k 0 lt
 
@@ -82,9 +84,11 @@ module _ (held : List (Option Lits)) (unused : List ℕ) (words live : ℕ) (nam
 
   -- the name of a live block becomes unused
   module _ (n : ℕ) (c : Lits) (is : held_at held n ≡ Some c) where
+    -- its name is one of the names
     inside : n < length held
     inside = live_within held n (λ e. let h = is in absurd (cc))
 
+    -- there is a live block
     counted_block : 1 ≤ blocks_of held
     counted_block =
         let a : one (held_at held n) ≡ 1 = ap one is in
@@ -101,6 +105,7 @@ module _ (held : List (Option Lits)) (unused : List ℕ) (words live : ℕ) (nam
         let a : size (held_at held n) ≡ length c = ap size is in
         let b : size (held_at held n) ≤ words_of held = get_or-le-sum_by size held n None inside in omega arith
 
+    -- none of the unused names is this one
     other : (k : ℕ) → k < length unused → get_or unused k 0 ≢ n
     other k lt e =
         let none : held_at held n ≡ None = ap (held_at held) (sym e) ∙ (named.dead k lt).1 in
@@ -110,9 +115,11 @@ module _ (held : List (Option Lits)) (unused : List ℕ) (words live : ℕ) (nam
     abbrev pub unused2 : List ℕ
     unused2 = unused ++ n ∷ []
 
+    -- the names that were unused stay at their entries
     old_name : (k : ℕ) → k < length unused → get_or unused2 k 0 ≡ get_or unused k 0
     old_name k lt = get_or_append_left unused (n ∷ []) 0 k lt
 
+    -- and this one has the entry behind them
     new_name : (k : ℕ) → k ≡ length unused → get_or unused2 k 0 ≡ n
     new_name k e = get_or_push unused n 0 k (sym e)
 
@@ -120,9 +127,11 @@ module _ (held : List (Option Lits)) (unused : List ℕ) (words live : ℕ) (nam
     abbrev pub held2 : List (Option Lits)
     held2 = set held n None
 
+    -- no block has the name then
     none_there : held_at held2 n ≡ None
     none_there = get_or-set_same held n None None inside
 
+    -- each unused name, with this one, is one of the names, and no live block has it
     freed_dead : (k : ℕ) → k < length unused2 → (get_or unused2 k 0 < length held2) × (held_at held2 (get_or unused2 k 0) ≡ None)
     freed_dead k lt =
         let len = length_push unused n in
@@ -139,6 +148,7 @@ module _ (held : List (Option Lits)) (unused : List ℕ) (words live : ℕ) (nam
               (subst (λ m. m < length held2) (sym e) (let a = inside in omega arith), ap (held_at held2) e ∙ none_there)
         ]
 
+    -- and each of them is there once
     freed_once : (j k : ℕ) → j < k → k < length unused2 → get_or unused2 j 0 ≢ get_or unused2 k 0
     freed_once j k lt below e =
         let len = length_push unused n in
@@ -225,12 +235,15 @@ module _ (run : Lits) (order : List ℕ) (slots : List (Option Place)) (words : 
     abbrev pub order2 : List ℕ
     order2 = listed order n (length c)
 
+    -- the run grows by the words of the block
     longer : length later ≡ length run + length c
     longer = length-append run c
 
+    -- a block that was in the run has its words in the longer one
     kept_block : (s : Option Place) → EndsBy (length run) s → block_in later s ≡ block_in run s
     kept_block s ends = same_front (length run) run later s (take_at run c (length run) refl ∙ sym (take_all (length run) run (omega arith))) ends
 
+    -- and the new block has its own
     own_block : block_in later (Some p) ≡ Some c
     own_block =
         ap (λ k. Some (take p.len (drop k later))) start
@@ -244,10 +257,12 @@ module _ (run : Lits) (order : List ℕ) (slots : List (Option Place)) (words : 
         ∙ ap (λ b. set (map (block_in later) slots) n b) own_block
         ∙ ap (λ bs. set bs n (Some c)) (blocks_changed run later slots slots refl (λ m. kept_block (place_of slots m) (laid.ends m)))
 
+    -- a block that ends within the run ends within the longer one
     longer_ends : (s : Option Place) → EndsBy (length run) s → EndsBy (length later) s
     longer_ends None ends = tt
     longer_ends (Some q) ends = λ some. let a = ends some in let b = longer in omega arith
 
+    -- so each block ends within the longer run, and so does the new one
     put_ends : EachEndsBy (length later) slots2
     put_ends m =
         elim (cases_eq m n) [
@@ -255,6 +270,7 @@ module _ (run : Lits) (order : List ℕ) (slots : List (Option Place)) (words : 
           | inr ne ↦ subst (EndsBy (length later)) (sym (get_or-set_other slots n m (Some p) None ne)) (longer_ends (place_of slots m) (laid.ends m))
         ]
 
+    -- each block with words has its name at its own entry, the new one behind the others
     put_entry : (m : ℕ) (q : Place) → place_of slots2 m ≡ Some q → 0 < q.len → (q.at < length order2) × (get_or order2 q.at 0 ≡ m)
     put_entry m q is some =
         elim (set_some slots n m p q is) [
@@ -269,6 +285,7 @@ module _ (run : Lits) (order : List ℕ) (slots : List (Option Place)) (words : 
               (stays.0, stays.1 ∙ old.1)
         ]
 
+    -- and the words of blocks come in that order
     put_sorted : (m k : ℕ) (q r : Place) → place_of slots2 m ≡ Some q → place_of slots2 k ≡ Some r → 0 < q.len → 0 < r.len
         → q.at < r.at → q.start + q.len ≤ r.start
     put_sorted m k q r is is2 some some2 lt =
@@ -347,6 +364,7 @@ module _ (run : Lits) (slots : List (Option Place)) (unused : List ℕ) (words l
     (n : ℕ) (n_is : n ≡ get_or unused (length unused - 1) 0)
     (p : Place) (start : p.start ≡ length run1) (len : p.len ≡ length c) (at : p.at ≡ length order1)
     (run2 : Lits) (run2_is : run2 ≡ run1 ++ c) where
+  -- the name of the new block is one of the names
   there : n < length slots1
   there =
       let a = in_range (blocks_in run slots) unused words live named c some fits in

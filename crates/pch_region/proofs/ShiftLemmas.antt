@@ -20,12 +20,15 @@ module _ (run : Lits) (p : Place) (to : ℕ) (within : p.start + p.len ≤ lengt
   abbrev pub moved : Lits
   moved = paste run to (drop p.start run) p.len
 
+  -- from the start of the block on there are all its words
   long : p.len ≤ length (drop p.start run)
   long = let e = length-drop p.start run in omega arith
 
+  -- then the run begins with the words before `to`, and has those of the block next
   front_is : take (to + p.len) moved ≡ take to run ++ take p.len (drop p.start run)
   front_is = take-paste run to (drop p.start run) p.len (omega arith) long
 
+  -- and there are `to` words before them
   to_long : length (take to run) ≡ to
   to_long = length-take-le to run (omega arith)
 
@@ -78,12 +81,15 @@ module _ (order : List ℕ) (slots : List (Option Place)) (end i to kept name : 
   }
 
   module _ (p : Place) (own : own_place i (place_of slots name) ≡ Some p) where
+    -- the block with the name lies at this place
     placed : place_of slots name ≡ Some p
     placed = (own_some i (place_of slots name) p own).0
 
+    -- its entry is this one
     at_i : p.at ≡ i
     at_i = (own_some i (place_of slots name) p own).1
 
+    -- it has words
     some : 0 < p.len
     some = (own_some i (place_of slots name) p own).2
 
@@ -127,15 +133,19 @@ module _ (order : List ℕ) (slots : List (Option Place)) (end i to kept name : 
     abbrev pub order2 : List ℕ
     order2 = set order kept name
 
+    -- the entry that its name gets is there
     kept_there : kept < length order
     kept_there = let a : kept ≤ i = closing.fewer in omega (arith, there)
 
+    -- the block lies at its new place then
     changed_at : place_of changed name ≡ Some moved_place
     changed_at = get_or-set_same slots name (Some moved_place) None (place_within slots name p placed)
 
+    -- and each other block where it lay
     changed_other : (m : ℕ) → m ≢ name → place_of changed m ≡ place_of slots m
     changed_other m ne = get_or-set_other slots name m (Some moved_place) None ne
 
+    -- any other block has its words, whether it was moved already or lies behind this one
     other_kept : (run later : Lits) → take to later ≡ take to run → drop (to + p.len) later ≡ drop (to + p.len) run → (s : Option Place)
         → ((q : Place) → s ≡ Some q → 0 < q.len → ((q.at < kept) × (q.start + q.len ≤ to)) ⊎ ((i + 1 ≤ q.at) × (to + p.len ≤ q.start)))
         → block_in later s ≡ block_in run s
@@ -163,6 +173,7 @@ module _ (order : List ℕ) (slots : List (Option Place)) (end i to kept name : 
           | inr ne ↦ ap (block_in later) (changed_other m ne) ∙ other_kept run later (moved_front run p to inside down) (moved_back run p to inside down) (place_of slots m) (λ q is has. other_split m q ne is has)
         ])
 
+    -- each block ends within the run still
     shifted_ends : EachEndsBy end changed
     shifted_ends m =
         elim (cases_eq m name) [
@@ -170,9 +181,11 @@ module _ (order : List ℕ) (slots : List (Option Place)) (end i to kept name : 
           | inr ne ↦ subst (EndsBy end) (sym (changed_other m ne)) (closing.ends m)
         ]
 
+    -- the order keeps its length
     len2 : length order2 ≡ length order
     len2 = length-set order kept name
 
+    -- each block with words has its name at its own entry
     shifted_entry : (n : ℕ) (q : Place) → place_of changed n ≡ Some q → 0 < q.len → (q.at < length order2) × (get_or order2 q.at 0 ≡ n)
     shifted_entry n q is has =
         let len = len2 in
@@ -192,6 +205,7 @@ module _ (order : List ℕ) (slots : List (Option Place)) (end i to kept name : 
               (omega arith, get_or-set_other order kept q.at name 0 ne ∙ old.1)
         ]
 
+    -- and the words of blocks come in that order
     shifted_sorted : (n m : ℕ) (q r : Place) → place_of changed n ≡ Some q → place_of changed m ≡ Some r → 0 < q.len → 0 < r.len
         → q.at < r.at → q.start + q.len ≤ r.start
     shifted_sorted n m q r is is2 has has2 lt =
@@ -220,6 +234,7 @@ module _ (order : List ℕ) (slots : List (Option Place)) (end i to kept name : 
           ]
         ]
 
+    -- each block was moved, this one with them, or lies behind those that were
     shifted_split : (n : ℕ) (q : Place) → place_of changed n ≡ Some q → 0 < q.len
         → ((q.at < kept + 1) × (q.start + q.len ≤ to + p.len)) ⊎ ((i + 1 ≤ q.at) × (to + p.len ≤ q.start))
     shifted_split n q is has =
@@ -235,6 +250,7 @@ module _ (order : List ℕ) (slots : List (Option Place)) (end i to kept name : 
           ]
         ]
 
+    -- any other block counts with as many words as before
     weight_kept : (s : Option Place)
         → ((q : Place) → s ≡ Some q → 0 < q.len → ((q.at < kept) × (q.start + q.len ≤ to)) ⊎ ((i + 1 ≤ q.at) × (to + p.len ≤ q.start)))
         → kept_words (kept + 1) s ≡ kept_words kept s
@@ -249,6 +265,7 @@ module _ (order : List ℕ) (slots : List (Option Place)) (end i to kept name : 
           ]
         ]
 
+    -- so the blocks that were moved have as many words as there are before the new front
     shifted_filled : sum_by (kept_words (kept + 1)) changed ≡ to + p.len
     shifted_filled =
         let fewer : kept ≤ i = closing.fewer in
@@ -275,6 +292,7 @@ module _ (order : List ℕ) (slots : List (Option Place)) (end i to kept name : 
     }
 
     module _ (run run2 : Lits) (len : length run ≡ end) (is : run2 ≡ copy_within run p.start (p.start + p.len) to) where
+      -- the move writes the words of the block behind those that were moved
       pasted : run2 ≡ paste run to (drop p.start run) p.len
       pasted = is ∙ copied_is run p to
 

@@ -24,17 +24,20 @@ pub record AreListed (g : GeometryValue) (first : List ℕ) (cell : ℕ → ℕ 
   pub output_count : length outputs ≡ g.output_pads
   pub words_are : words ≡ first ++ joined g.columns (λ column. joined g.rows (cell column) ++ track column) ++ outputs
 
+-- the cells of a column have the words of one cell for each row
 length-cells : (g : GeometryValue) (first outputs words : List ℕ) (cell : ℕ → ℕ → List ℕ) (track : ℕ → List ℕ) (column : ℕ)
     → AreListed g first cell track outputs words → column < g.columns → length (joined g.rows (cell column)) ≡ g.rows * cell_words g
 length-cells g first outputs words cell track column h lt =
     length-joined g.rows (cell_words g) (cell column) (λ row inside. h.cell_count column row lt inside)
 
+-- with those of the channel behind it they are as many as a column has
 length-column : (g : GeometryValue) (first outputs words : List ℕ) (cell : ℕ → ℕ → List ℕ) (track : ℕ → List ℕ) (column : ℕ)
     → AreListed g first cell track outputs words → column < g.columns → length (joined g.rows (cell column) ++ track column) ≡ column_words g
 length-column g first outputs words cell track column h lt =
     length-append (joined g.rows (cell column)) (track column)
     ∙ omega (arith, length-cells g first outputs words cell track column h lt, h.track_count column lt)
 
+-- so many words stand before those of the output pads
 length-before : (g : GeometryValue) (first outputs words : List ℕ) (cell : ℕ → ℕ → List ℕ) (track : ℕ → List ℕ)
     → AreListed g first cell track outputs words
     → length (first ++ joined g.columns (λ column. joined g.rows (cell column) ++ track column)) ≡ output_place g

@@ -45,6 +45,7 @@ length-listed_cell inputs g tracks cell =
     length-append (list_of (pin_count g) pin) (words_of (table_words g) cell.table)
     ∙ omega (arith, length-list_of (pin_count g) pin, length-words_of (table_words g) cell.table)
 
+-- and so there are of each seat, whether a cell has it or none
 length-listed_seat : (l : MappedValue) (g : GeometryValue) (tracks : List ℕ) (o : Option ℕ) → length (listed_seat l g tracks o) ≡ cell_words g
 length-listed_seat l g tracks None = length-list_of (cell_words g) (λ i. 0)
 length-listed_seat l g tracks (Some n) = length-listed_cell l.inputs g tracks (mapped_cell l (n - l.inputs))
@@ -111,6 +112,7 @@ pin-at inputs g tracks cell pin lt =
     get_or_append_left (list_of (pin_count g) f) (words_of (table_words g) cell.table) 0 pin (omega (arith, length-list_of (pin_count g) f))
     ∙ get_or-list_of (pin_count g) f pin 0 lt
 
+-- the words of the table stand behind those of the pins
 table-at : (inputs : ℕ) (g : GeometryValue) (tracks : List ℕ) (cell : CellValue) (j : ℕ)
     → get_or (listed_cell inputs g tracks cell) (pin_count g + j) 0 ≡ get_or (words_of (table_words g) cell.table) j 0
 table-at inputs g tracks cell j =
@@ -168,6 +170,7 @@ seat-free l g columns rows spans seats seated signals chosen tracks column row (
     ))
     (cases_lt n l.inputs))
 
+-- so all its words are off
 row-free : (l : MappedValue) (g : GeometryValue) (columns rows : List ℕ) (spans : List Span) (seats : List ℕ) (seated : List Span) (signals : List (Option ℕ)) (chosen tracks : List ℕ) (column row i : ℕ)
     → HaveTracks l g columns rows spans seats seated signals chosen tracks → row < g.rows → cells_in columns column ≤ row → i < cell_words g
     → get_or (listed_row l g tracks signals column row) i 0 ≡ 0
@@ -232,6 +235,7 @@ pins_tapped l g columns rows spans seats seated signals chosen tracks limit k h 
     (pin_readable l columns spans g.columns k s cols h.are lt has
     (All-member (IsSourceBelow l.inputs (length l.cells)) (mapped_cell l k).pins s (pins_below l k mapped.settled lt) has))
 
+-- and each output listens nowhere, or to a signal with a track
 pub outputs_tapped : (l : MappedValue) (g : GeometryValue) (columns rows : List ℕ) (spans : List Span) (seats : List ℕ) (seated : List Span) (signals : List (Option ℕ)) (chosen tracks : List ℕ) (limit : ℕ)
     → HaveTracks l g columns rows spans seats seated signals chosen tracks → AreMapped l → g.tracks ≤ limit
     → All (IsTapped l.inputs limit tracks) l.outputs
@@ -242,6 +246,7 @@ outputs_tapped l g columns rows spans seats seated signals chosen tracks limit h
     (output_readable l columns spans g.columns s h.are_seats.room.column h.are has
     (All-member (IsSourceBelow l.inputs (length l.cells)) l.outputs s mapped.outputs has))
 
+-- the word of what listens so is at most the limit
 tapped-le : (inputs limit : ℕ) (tracks : List ℕ) (s : Source) → IsTapped inputs limit tracks s → tapped_word inputs tracks s ≤ limit
 tapped-le inputs limit tracks Zero h = omega arith
 tapped-le inputs limit tracks (Pad i) h = omega (arith, h.1)

@@ -77,6 +77,7 @@ Has-column l g columns spans c d lt has =
     inr (inr (inr ((Has-append (joined g.columns (column_demands g columns spans)) last d).1
     (inl (Has-joined g.columns (column_demands g columns spans) c d lt has)))))
 
+-- and so are the tracks that the last channel needs
 Has-last : (l : MappedValue) (g : GeometryValue) (columns : List ℕ) (spans : List Span)
     → Has (demands l g columns spans) (record { resource = Tracks; place = g.columns; need = need spans g.columns; have = g.tracks })
 Has-last l g columns spans =
@@ -125,6 +126,7 @@ have_room l g columns spans count h =
 abbrev bit : Bool → ℕ
 bit b = cond b 1 0
 
+-- a signal that has ended isn't live
 past_one : (f e c : ℕ) → e ≤ c → bit (leb f c && ltb c e) ≡ 0
 past_one f e c le = grind (arith, nat_tests)
 
@@ -164,6 +166,7 @@ same_bound a b p q =
     (λ le. ⊎_elim (λ lt. absurd (let more : b < b = p b lt in omega arith)) (λ ge. omega arith) (cases_lt b a))
     (cases_lt a b)
 
+-- spans with one first channel and one end are the same
 same_span : (s t : Span) → s.first ≡ t.first → s.end ≡ t.end → s ≡ t
 same_span s t e f =
     ap (λ n. let v : Span = record { first = n; end = s.end } in v) e

@@ -41,6 +41,7 @@ pub row_is : (l : MappedValue) (g : GeometryValue) (columns rows : List ℕ) (k 
     → AreRows columns rows → k < length l.cells → get_or rows k 0 ≡ row_of columns k
 row_is l g columns rows k count are lt = are.each k (omega arith)
 
+-- so each of them is a row of the fabric
 pub row-lt : (l : MappedValue) (g : GeometryValue) (columns rows : List ℕ) (k : ℕ) → length columns ≡ length l.cells
     → AreRows columns rows → HaveRoom l g columns → k < length l.cells → get_or rows k 0 < g.rows
 row-lt l g columns rows k count are room lt = omega (arith, row_is l g columns rows k count are lt, room.row k lt)
@@ -128,6 +129,7 @@ seat_of-apart l g columns rows m n count are room lt less same =
 pub first_of-input : (inputs : ℕ) (g : GeometryValue) (seat : ℕ) → seat < inputs → first_of inputs g seat ≡ 0
 first_of-input inputs g seat lt = cond-true (ltb seat inputs) 0 ((seat - inputs) / g.rows + 1) (lt-ltb seat inputs lt)
 
+-- the word that takes the signal of an input is one more than its seat
 entry_of-input : (inputs : ℕ) (g : GeometryValue) (seat : ℕ) → seat < inputs → entry_of inputs g seat ≡ seat + 1
 entry_of-input inputs g seat lt = cond-true (ltb seat inputs) (seat + 1) ((seat - inputs) % g.rows + 2) (lt-ltb seat inputs lt)
 
@@ -135,6 +137,7 @@ entry_of-input inputs g seat lt = cond-true (ltb seat inputs) (seat + 1) ((seat 
 first_of-cell : (inputs : ℕ) (g : GeometryValue) (seat : ℕ) → inputs ≤ seat → first_of inputs g seat ≡ (seat - inputs) / g.rows + 1
 first_of-cell inputs g seat le = cond-false (ltb seat inputs) 0 ((seat - inputs) / g.rows + 1) (le-ltb seat inputs le)
 
+-- the word that takes the signal of a cell is two more than the row of its seat
 entry_of-cell : (inputs : ℕ) (g : GeometryValue) (seat : ℕ) → inputs ≤ seat → entry_of inputs g seat ≡ (seat - inputs) % g.rows + 2
 entry_of-cell inputs g seat le = cond-false (ltb seat inputs) (seat + 1) ((seat - inputs) % g.rows + 2) (le-ltb seat inputs le)
 
@@ -142,6 +145,7 @@ entry_of-cell inputs g seat le = cond-false (ltb seat inputs) (seat + 1) ((seat 
 div-grows : (a b n : ℕ) → 0 < n → a ≤ b → a / n ≤ b / n
 div-grows a b n some le = le-div (a / n) b n some (omega (arith, div-mul-le_self a n))
 
+-- a later seat has no earlier first channel
 first_of-rises : (inputs : ℕ) (g : GeometryValue) (i j : ℕ) → 0 < g.rows → i ≤ j → first_of inputs g i ≤ first_of inputs g j
 first_of-rises inputs g i j some le =
     ⊎_elim
@@ -163,6 +167,7 @@ first_of-le inputs g seat c some lt =
 pub entry_of-le : (inputs : ℕ) (g : GeometryValue) (seat : ℕ) → 0 < g.rows → inputs ≤ seat → entry_of inputs g seat ≤ g.rows + 1
 entry_of-le inputs g seat some le = omega (arith, entry_of-cell inputs g seat le)
 
+-- and so is the word that takes the signal of an input
 pub entry_of-input-le : (inputs : ℕ) (g : GeometryValue) (seat : ℕ) → seat < inputs → entry_of inputs g seat ≤ inputs
 entry_of-input-le inputs g seat lt = omega (arith, entry_of-input inputs g seat lt)
 

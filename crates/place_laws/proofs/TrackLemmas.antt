@@ -24,6 +24,7 @@ use Rattle.place_laws.proofs.SeatingLemmas.{seat-number, seat_of-lt, entry_of-si
 live-test : (s : Span) (c : ℕ) → IsLive s c → is_live c s ≡ true
 live-test s c h = ap (λ b. b && ltb c s.end) (le-leb s.first c h.0) ∙ lt-ltb c s.end h.1
 
+-- the test of a signal that isn't live on the channel fails
 unlive-test : (s : Span) (c : ℕ) → (IsLive s c → ⊥) → is_live c s ≡ false
 unlive-test s c h =
     ⊎_elim
@@ -156,6 +157,7 @@ track-off-held l g columns rows spans seats seated signals chosen tracks c t (So
     (λ live. none who.0 who.1 (subst P who.3 live)
     (track-seat l g columns rows spans seats seated signals chosen tracks who.0 h who.1 ∙ ap (λ m. get_or chosen m 0) who.2 ∙ took.2))
 
+-- so the word of such a track is off
 pub track-off : (l : MappedValue) (g : GeometryValue) (columns rows : List ℕ) (spans : List Span) (seats : List ℕ) (seated : List Span) (signals : List (Option ℕ)) (chosen tracks : List ℕ) (c t : ℕ)
     → HaveTracks l g columns rows spans seats seated signals chosen tracks → c ≤ g.columns
     → ((s : Source) → IsSignal l s → IsLive (span_of l spans s) c → track_of l tracks s ≡ t → ⊥)
@@ -192,6 +194,7 @@ first-le-held l g columns rows spans seats seated signals chosen tracks t (Some 
     carried-le l.inputs g seated 0 seat g.input_pads h.geometry.some_input_pads
     (λ first. omega (arith, entry_of-input-le l.inputs g seat (omega (arith, took.0)), h.are_seats.room.input_pads))
 
+-- so each of them is at most the number of input pads
 pub first-le : (l : MappedValue) (g : GeometryValue) (columns rows : List ℕ) (spans : List Span) (seats : List ℕ) (seated : List Span) (signals : List (Option ℕ)) (chosen tracks : List ℕ) (t : ℕ)
     → HaveTracks l g columns rows spans seats seated signals chosen tracks → listed_track l.inputs g seated chosen 0 t ≤ g.input_pads
 first-le l g columns rows spans seats seated signals chosen tracks t h =
@@ -214,11 +217,13 @@ later-le-held l g columns rows spans seats seated signals chosen tracks c t (Som
     (λ first. entry_of-le l.inputs g seat h.are_seats.some_rows
     (cell-seat l.inputs g seat (omega (arith, first, first_of-seat l g columns rows seats spans seated signals seat (get_or signals seat None) h.are_seats h.are h.have there refl))))
 
+-- so each of them is at most one more than the rows
 pub later-le : (l : MappedValue) (g : GeometryValue) (columns rows : List ℕ) (spans : List Span) (seats : List ℕ) (seated : List Span) (signals : List (Option ℕ)) (chosen tracks : List ℕ) (c t : ℕ)
     → HaveTracks l g columns rows spans seats seated signals chosen tracks → c + 1 ≤ g.columns → listed_track l.inputs g seated chosen (c + 1) t ≤ g.rows + 1
 later-le l g columns rows spans seats seated signals chosen tracks c t h le =
     later-le-held l g columns rows spans seats seated signals chosen tracks c t (holder seated chosen (seats_until l.inputs g (c + 1)) t) h le refl
 
+-- what two equal options hold is equal
 same_signal : (i j : ℕ) → Some i ≡ Some j → i ≡ j
 same_signal i j e = cc
 

@@ -77,6 +77,7 @@ refused_fabric l g columns spans e cols are h =
     refused l g columns spans e cols are
     (refuses_first (fabric_demands l g columns) (joined g.columns (column_demands g columns spans) ++ last ∷ []) e h)
 
+-- those of the second part count where nothing of the first one is over
 pub refused_columns : (l : MappedValue) (g : GeometryValue) (columns counts needs : List ℕ) (spans : List Span) (e : RouteError) → AreColumns l columns
     → AreSpans l columns g.columns spans → first_over (fabric_demands l g columns) ≡ None
     → ((c : ℕ) → c < g.columns → get_or counts c 0 ≡ cells_in columns c)

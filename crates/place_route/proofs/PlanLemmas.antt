@@ -33,11 +33,13 @@ pub columns-there : (l : MappedValue) (g : GeometryValue) (columns rows : List �
 columns-there l g columns rows spans h k lt =
     (have_room l g columns spans h.cols.count h.met).column k (omega (arith, h.cols.count))
 
+-- the row of each cell is one of the fabric's
 pub rows-there : (l : MappedValue) (g : GeometryValue) (columns rows : List ℕ) (spans : List Span) → CanBePlaced l g columns rows spans
     → (k : ℕ) → k < length columns → get_or rows k 0 < g.rows
 rows-there l g columns rows spans h k lt =
     row-lt l g columns rows k h.cols.count h.are_rows (have_room l g columns spans h.cols.count h.met) (omega (arith, h.cols.count))
 
+-- there are no more inputs than a fabric may have input pads
 pub inputs-few : (l : MappedValue) (g : GeometryValue) (columns rows : List ℕ) (spans : List Span) (inputs : ℕ) → CanBePlaced l g columns rows spans
     → inputs ≡ l.inputs → inputs ≤ MAX_SIDE
 inputs-few l g columns rows spans inputs h e =
@@ -58,6 +60,7 @@ are_seats l g columns rows spans inputs seats h e is = record {
       ∙ ap (λ n. list_of (l.inputs + n) (seat_of l.inputs g columns rows)) h.cols.count;
 }
 
+-- there is a seat for each input and each cell
 pub seats-count : (l : MappedValue) (g : GeometryValue) (columns rows seats : List ℕ) → AreSeats l g columns rows seats
     → length seats ≡ l.inputs + length l.cells
 seats-count l g columns rows seats h =
@@ -73,6 +76,7 @@ seats-there l g columns rows seats inputs n h e lt =
     let P : ℕ → Type 0 = λ m. get_or seats n 0 < seat_count m g in
     subst P (sym e) below
 
+-- no two signals have one seat
 pub seats-apart : (l : MappedValue) (g : GeometryValue) (columns rows seats : List ℕ) (m n : ℕ) → AreSeats l g columns rows seats
     → m < n → n < length seats → get_or seats m 0 ≡ get_or seats n 0 → ⊥
 seats-apart l g columns rows seats m n h less lt same =
@@ -87,6 +91,7 @@ pub have_seats : (l : MappedValue) (g : GeometryValue) (spans : List Span) (seat
 have_seats l g spans seats inputs seated signals e h =
     let P : ℕ → Type 0 = λ n. HaveSeats n g spans seats (length spans) seated signals in subst P e h
 
+-- so the spans of the seats begin in the order of the seats
 pub seated-ordered : (l : MappedValue) (g : GeometryValue) (columns rows seats : List ℕ) (spans : List Span) (inputs : ℕ) (seated : List Span) (signals : List (Option ℕ))
     → CanBePlaced l g columns rows spans → AreSeats l g columns rows seats → inputs ≡ l.inputs
     → HaveSeats inputs g spans seats (length spans) seated signals → BeginInOrder seated

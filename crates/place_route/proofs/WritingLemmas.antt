@@ -29,6 +29,7 @@ some_there spans chosen n most t None le e = tt
 some_there spans chosen n most t (Some seat) le e =
     let took = holder-some spans chosen n t seat e in omega (arith, took.0)
 
+-- so the holder of any track is such a seat, if there is one
 pub holders_there : (spans : List Span) (chosen : List ℕ) (n most : ℕ) (holders : List (Option ℕ)) → AreHolders spans chosen n holders
     → n ≤ most → (t : ℕ) → IfSome (get_or holders t None) (λ seat. seat < most)
 holders_there spans chosen n most holders h le t =

@@ -19,6 +19,7 @@ use Rattle.log_defs.specs.Deriving.{IsNew, IsTaken}
 use Rattle.log_laws.proofs.LogLemmas.{clause_with-derived, LogOk-push}
 use Rattle.proof_log.specs.Kept.{derived_of, AreSideBySide, HaveRoom, IsKept, HasPlace}
 
+-- clauses side by side with their antecedents are as many derived clauses
 pub length-derived_of : (cs : List Lits) (ants : List (List ℕ)) → length ants ≡ length cs → length (derived_of cs ants) ≡ length cs
 length-derived_of [] ants e = refl
 length-derived_of (c ∷ cs) [] e = absurd (omega arith)
@@ -37,6 +38,7 @@ pub derived_at-there : (cs : List Lits) (ants : List (List ℕ)) (k : ℕ) (c : 
     → derived_at (derived_of cs ants) k ≡ record { lits = c; antecedents = a }
 derived_at-there cs ants k c a e f = get_or_from_slice_get (derived_of cs ants) k _ _ (derived_there cs ants k c a e f)
 
+-- the derived clause at a place has the literals that stand there
 pub lits_at-derived_of : (cs : List Lits) (ants : List (List ℕ)) (k : ℕ) (c : Lits) → length ants ≡ length cs → slice_get cs k ≡ Some c
     → (derived_at (derived_of cs ants) k).lits ≡ c
 lits_at-derived_of cs ants k c e f =
@@ -78,9 +80,11 @@ ordered_length (l ∷ ls) low high o le h =
     let rest = ordered_length ls (code l) high o.1 b (λ m i. (o.0 m i, (h m (inr i)).1)) in
     omega arith
 
+-- the code of a literal is greater than 1, and at most the greatest one of the last variable
 code_range : (v : ℕ) (b : ℕ) → b ≤ 1 → 1 ≤ v → v ≤ MAX_VARIABLE → (1 < 2 * v + b) × (2 * v + b ≤ 2 * MAX_VARIABLE + 1)
 code_range v b small low high = (omega arith, omega arith)
 
+-- the sign of a literal is a bit of its code
 sign_bit : (b : Bool) → (if b then 1 else 0) ≤ 1
 sign_bit true = omega arith
 sign_bit false = omega arith
@@ -106,9 +110,11 @@ abbrev pub log_of : Formula → Indexed → Flat ℕ → ℕ → LogValue
 log_of originals clauses ants budget = record { originals = originals; derived = derived_of clauses.clauses ants.lists; budget = budget }
 
 module _ (originals : Formula) (clauses : Indexed) (ants : Flat ℕ) (budget used : ℕ) (kept : IsKept originals clauses ants budget used) where
+  -- the log has as many derived clauses as clauses are kept
   many : length (derived_of clauses.clauses ants.lists) ≡ length clauses.clauses
   many = length-derived_of clauses.clauses ants.lists kept.log.as_many
 
+  -- and it keeps what every log does
   pub is_log : IsLog (log_of originals clauses ants budget)
   is_log = record {
     ok = kept.log.ok;

@@ -17,6 +17,7 @@ take_suc [] k x e = absurd (cc)
 take_suc (y ∷ ys) zero x e = cc
 take_suc (y ∷ ys) (suc k) x e = ap (λ zs. y ∷ zs) (take_suc ys k x e)
 
+-- the same, where one is added to the number of elements
 take_one_more : {X : Type 0} (xs : List X) (k : ℕ) (x : X) → slice_get xs k ≡ Some x → take (k + 1) xs ≡ take k xs ++ x ∷ []
 take_one_more xs k x e = rw add-one (take_suc xs k x e)
 

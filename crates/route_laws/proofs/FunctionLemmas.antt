@@ -51,6 +51,7 @@ source_bit-le x b (Cell k) p q = AreBits-get_or b k q
 get_or-source_bits : (x b : List ℕ) (ss : List Source) (i : ℕ) → get_or (source_bits x b ss) i 0 ≡ source_bit x b (get_or ss i Zero)
 get_or-source_bits x b ss i = get_or-map (source_bit x b) ss i Zero
 
+-- so the bits of several sources are bits
 source_bits-bits : (x b : List ℕ) (ss : List Source) → AreBits x → AreBits b → AreBits (source_bits x b ss)
 source_bits-bits x b ss p q =
     AreBits-from_get_or (source_bits x b ss)

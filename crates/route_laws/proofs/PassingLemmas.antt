@@ -90,6 +90,7 @@ column_after-rest columns Zero ss = omega arith
 column_after-rest columns (Pad i) ss = omega arith
 column_after-rest columns (Cell k) ss = omega arith
 
+-- so the column after some sources is behind that of each cell among them
 pub column_after-le : (columns : List ℕ) (ss : List Source) (k : ℕ) → Has ss (Cell k) → get_or columns k 0 + 1 ≤ column_after columns ss
 column_after-le columns [] k has = absurd has
 column_after-le columns (s ∷ ss) k (inl e) =

@@ -12,11 +12,13 @@ settled-within : (l : MappedValue) (n k : ℕ) → IsSettledCell l n k → k < l
 settled-within l zero k h = absurd h
 settled-within l (suc n) k h = h.0
 
+-- a source among settled cells and inputs is nowhere, an input or a cell
 among-below : (l : MappedValue) (n : ℕ) (s : Source) → IsSourceAmong l.inputs (IsSettledCell l n) s → IsSourceBelow l.inputs (length l.cells) s
 among-below l n Zero h = tt
 among-below l n (Pad i) h = h
 among-below l n (Cell k) h = settled-within l n k h
 
+-- and so is each pin of a settled cell
 settled_pins : (l : MappedValue) (n k : ℕ) → IsSettledCell l n k → All (IsSourceBelow l.inputs (length l.cells)) (mapped_cell l k).pins
 settled_pins l zero k h = absurd h
 settled_pins l (suc n) k h = λ i d lt. among-below l n (get_or (mapped_cell l k).pins i d) (h.1 i d lt)

@@ -24,6 +24,7 @@ many_words (c ∷ r ∷ t ∷ i ∷ []) h = absurd (omega (arith, h))
 many_words (c ∷ r ∷ t ∷ i ∷ o ∷ []) h = absurd (omega (arith, h))
 many_words (c ∷ r ∷ t ∷ i ∷ o ∷ w ∷ ws) h = refl
 
+-- whether a test passes or not, no value is let through where there is none
 no_value : {X : Type 0} (b : Bool) (o : Option X) → o ≡ None → None ≡ cond b o None
 no_value true o e = sym e
 no_value false o e = refl

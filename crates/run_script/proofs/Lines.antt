@@ -8,9 +8,11 @@ use Rattle.script_defs.specs.Lines.{onto_line, lines}
 abbrev pub is_feed : ℕ → Bool
 is_feed b = b == 10
 
+-- a line feed at the beginning ends an empty line
 feed_first : (b : ℕ) (bs : List ℕ) → is_feed b ≡ true → lines (b ∷ bs) ≡ [] ∷ lines bs
 feed_first b bs e = rw e refl
 
+-- any other byte stands in front of the first line of what follows
 no_feed : (b : ℕ) (bs : List ℕ) → is_feed b ≡ false → lines (b ∷ bs) ≡ onto_line b (lines bs)
 no_feed b bs e = rw e refl
 
@@ -18,6 +20,7 @@ no_feed b bs e = rw e refl
 abbrev BeginsWithLine : ℕ → List ℕ → Type 0
 BeginsWithLine n text = lines text ≡ take n text ∷ lines (drop 1 (drop n text))
 
+-- so with such a byte in front the first line is longer by one
 line_longer : (b : ℕ) (bs : List ℕ) (n : ℕ) → is_feed b ≡ false → BeginsWithLine n bs → BeginsWithLine (suc n) (b ∷ bs)
 line_longer b bs n e h = no_feed b bs e ∙ ap (onto_line b) h
 

@@ -56,6 +56,7 @@ placed_new p xs y passes e =
     equal : (m n : ℕ) → m ≡ n → eqb m n ≡ true
     equal m n e = grind (arith, nat_tests)
 
+-- a conjunction fails where its second part fails
 fails : (a b : Bool) → b ≡ false → (a && b) ≡ false
 fails true b e = e
 fails false b e = refl

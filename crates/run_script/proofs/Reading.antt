@@ -41,6 +41,7 @@ bytes_less n rest after some after-is =
 abbrev pub finishing : List ℕ → Draft → Result ScriptValue ScriptError
 finishing text d = ok_or (value_of d) (Line (line_behind text))
 
+-- a draft that no fault ended
 abbrev ok_draft : Draft → Result Draft ScriptError
 ok_draft d = Ok d
 
@@ -80,9 +81,11 @@ line_fault text d f at n rest line after words total n-is some line-is after-is 
     ⊎_elim (λ memory. inl memory)
     (λ is. inr (sym (whole_by text d at n rest line after words (Err f) total n-is some line-is after-is words-is is so_far))) h
 
+-- a number that is tested to be 0 is 0
 none : (n : ℕ) → true ≡ (n == 0) → n ≡ 0
 none n e = grind (arith, nat_tests)
 
+-- so where the test finds no byte left, there is none
 none_left : (rest : List ℕ) → true ≡ (length rest == 0) → rest ≡ []
 none_left [] e = refl
 none_left (b ∷ bs) e = absurd (let z : length (b ∷ bs) ≡ 0 = none (length (b ∷ bs)) e in omega (arith, z))

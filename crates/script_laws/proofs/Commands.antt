@@ -39,9 +39,11 @@ mapped : {X Y : Type 0} (f : X → Y) (o : Option X) (y : Y) → option_map f o 
 mapped f None y h = absurd cc
 mapped f (Some x) y h = (x, refl, cc)
 
+-- what two equal options hold is equal
 some_is : {X : Type 0} (x y : X) → Some x ≡ Some y → x ≡ y
 some_is x y e = cc
 
+-- a conjunction that holds has both its parts
 both : (a b : Bool) → (a && b) ≡ true → (a ≡ true) × (b ≡ true)
 both true b e = (refl, e)
 both false b e = absurd cc
@@ -55,6 +57,7 @@ positive_bounds max n w h =
     let q = at_most-some max n (number_in w) p.0 in
     (p.1, q.1)
 
+-- where there is a number below the bound, it is below it
 below-some : (bound n : ℕ) (o : Option ℕ) → below bound o ≡ Some n → n < bound
 below-some bound n None h = absurd cc
 below-some bound n (Some m) h =
@@ -69,6 +72,7 @@ below-some bound n (Some m) h =
 below_bound : (bound n : ℕ) (w : List ℕ) → number_below bound w ≡ Some n → n < bound
 below_bound bound n w h = below-some bound n (number_in w) h
 
+-- what a byte spells is at most 1
 bit_in-le : (b : Bool) → cond b 1 0 ≤ 1
 bit_in-le true = omega arith
 bit_in-le false = omega arith
@@ -79,11 +83,13 @@ bits-map [] b h = absurd h
 bits-map (c ∷ cs) b (inl e) = subst (λ (n : ℕ). n ≤ 1) e (bit_in-le (c == 49))
 bits-map (c ∷ cs) b (inr h) = bits-map cs b h
 
+-- where a word spells no bits, they are bits, and at most 64
 bits-none : (bits : List ℕ) → Some [] ≡ Some bits → AreBits bits × (length bits ≤ 64)
 bits-none bits e =
     let same : [] ≡ bits = some_is [] bits e in
     subst (λ (x : List ℕ). AreBits x × (length x ≤ 64)) same (λ b h. absurd h, omega arith)
 
+-- where it spells some, they are bits, and at most 64
 bits-some : (w bits : List ℕ) → cond (are_bits w) (Some (map bit_in w)) None ≡ Some bits → AreBits bits × (length bits ≤ 64)
 bits-some w bits e =
     let c = chosen (are_bits w) (Some (map bit_in w)) bits e in
@@ -109,12 +115,14 @@ abbrev pub IsSaid : GeometryValue → ℕ → Said → Type 0
 IsSaid g count (plain c) = (files : List FileUse) → IsCommand g count files c
 IsSaid g count (named kind slot name) = slot < count
 
+-- a line that names a file is within the bounds, if its slot is one of the device
 named_with-bounds : (g : GeometryValue) (count : ℕ) (kind : Kind) (name : List ℕ) (o : Option ℕ) (said : Said) → ((n : ℕ) → o ≡ Some n → n < count)
     → named_with kind o name ≡ Some said → IsSaid g count said
 named_with-bounds g count kind name None said slot h = absurd cc
 named_with-bounds g count kind name (Some s) said slot h =
     subst (IsSaid g count) (some_is (named kind s name) said h) (slot s refl)
 
+-- so what `SLOT FILE` says is within the bounds
 named_bounds : (g : GeometryValue) (count : ℕ) (kind : Kind) (more : List (List ℕ)) (said : Said) → named_by kind count more ≡ Some said → IsSaid g count said
 named_bounds g count kind [] said h = absurd cc
 named_bounds g count kind (slot ∷ []) said h = absurd cc
@@ -122,6 +130,7 @@ named_bounds g count kind (slot ∷ name ∷ []) said h =
     named_with-bounds g count kind name (number_below count slot) said (λ n e. below_bound count n slot e) h
 named_bounds g count kind (slot ∷ name ∷ more ∷ rest) said h = absurd cc
 
+-- what `SLOT` says is within the bounds
 evict_bounds : (g : GeometryValue) (count : ℕ) (more : List (List ℕ)) (said : Said) → evict_by count more ≡ Some said → IsSaid g count said
 evict_bounds g count [] said h = absurd cc
 evict_bounds g count (slot ∷ []) said h =
@@ -129,6 +138,7 @@ evict_bounds g count (slot ∷ []) said h =
     subst (IsSaid g count) m.2 (λ files. below_bound count m.0 slot m.1)
 evict_bounds g count (slot ∷ more ∷ rest) said h = absurd cc
 
+-- a cycle is within the bounds, if its slot, its bits and its probe are
 cycle_with-bounds : (g : GeometryValue) (count : ℕ) (s : Option ℕ) (bits : Option (List ℕ)) (probe : Option ℕ) (said : Said)
     → ((n : ℕ) → s ≡ Some n → n < count) → ((b : List ℕ) → bits ≡ Some b → AreBits b × (length b ≤ 64)) → ((n : ℕ) → probe ≡ Some n → n < cell_count g)
     → cycle_with s bits probe ≡ Some said → IsSaid g count said
@@ -139,6 +149,7 @@ cycle_with-bounds g count (Some s) (Some b) (Some p) said hs hb hp h =
     let kb = hb b refl in
     subst (IsSaid g count) (some_is (plain (Cycle s b p)) said h) (λ files. (hs s refl, kb.0, kb.1, hp p refl))
 
+-- so what `SLOT BITS PROBE` says is within the bounds
 cycle_bounds : (g : GeometryValue) (count : ℕ) (more : List (List ℕ)) (said : Said) → cycle_by count (cell_count g) more ≡ Some said → IsSaid g count said
 cycle_bounds g count [] said h = absurd cc
 cycle_bounds g count (slot ∷ []) said h = absurd cc
@@ -148,6 +159,7 @@ cycle_bounds g count (slot ∷ bits ∷ probe ∷ []) said h =
     (λ n e. below_bound count n slot e) (λ b e. bits_bounds bits b e) (λ n e. below_bound (cell_count g) n probe e) h
 cycle_bounds g count (slot ∷ bits ∷ probe ∷ more ∷ rest) said h = absurd cc
 
+-- a sweep is within the bounds, if its slot, its first value and its count are
 sweep_with-bounds : (g : GeometryValue) (count : ℕ) (s first size : Option ℕ) (said : Said)
     → ((n : ℕ) → s ≡ Some n → n < count) → ((n : ℕ) → first ≡ Some n → n < 2 ^ 64) → ((n : ℕ) → size ≡ Some n → (1 ≤ n) × (n ≤ MAX_SWEEP))
     → sweep_with s first size ≡ Some said → IsSaid g count said
@@ -162,6 +174,7 @@ sweep_with-bounds g count (Some s) (Some f) (Some c) said hs hf hc h =
 long_bound : (n : ℕ) (w : List ℕ) → number_within max_long w ≡ Some n → n < 2 ^ 64
 long_bound n w h = let le : n ≤ 2 ^ 64 - 1 = (at_most-some max_long n (number_in w) h).1 in omega arith
 
+-- so what `SLOT FIRST COUNT` says is within the bounds
 sweep_bounds : (g : GeometryValue) (count : ℕ) (more : List (List ℕ)) (said : Said) → sweep_by count more ≡ Some said → IsSaid g count said
 sweep_bounds g count [] said h = absurd cc
 sweep_bounds g count (slot ∷ []) said h = absurd cc
@@ -209,6 +222,7 @@ IsHead (whole g s l w) =
 abbrev WithinLimit : ℕ → Option ℕ → Type 0
 WithinLimit max o = (n : ℕ) → o ≡ Some n → (1 ≤ n) × (n ≤ max)
 
+-- numbers within their limits give a fabric whose cells have four inputs
 fabric_with-four : (c r t i o : Option ℕ) (g : GeometryValue) → WithinLimit MAX_SIDE c → WithinLimit MAX_SIDE r → WithinLimit MAX_TRACKS t → WithinLimit MAX_SIDE i → WithinLimit MAX_SIDE o
     → fabric_with c r t i o ≡ Some g → IsFour g
 fabric_with-four None r t i o g hc hr ht hi ho h = absurd cc
@@ -239,6 +253,7 @@ fabric_with-four (Some c) (Some r) (Some t) (Some i) (Some o) g hc hr ht hi ho h
       kind = refl;
     })
 
+-- and so do words that spell such numbers
 fabric_in-four : (words : List (List ℕ)) (g : GeometryValue) → fabric_in words ≡ Some g → IsFour g
 fabric_in-four [] g h = absurd cc
 fabric_in-four (c ∷ []) g h = absurd cc
@@ -251,11 +266,13 @@ fabric_in-four (c ∷ r ∷ t ∷ i ∷ o ∷ []) g h =
     (λ n e. positive_bounds MAX_SIDE n i e) (λ n e. positive_bounds MAX_SIDE n o e) h
 fabric_in-four (c ∷ r ∷ t ∷ i ∷ o ∷ more ∷ rest) g h = absurd cc
 
+-- the number that an only word spells is from 1 to its limit
 only_count-bounds : (max n : ℕ) (words : List (List ℕ)) → only_count max words ≡ Some n → (1 ≤ n) × (n ≤ max)
 only_count-bounds max n [] h = absurd cc
 only_count-bounds max n (word ∷ []) h = positive_bounds max n word h
 only_count-bounds max n (word ∷ more ∷ rest) h = absurd cc
 
+-- and so is the number that a line has behind its first word
 count_bounds : (word : List ℕ) (max n : ℕ) (first : List ℕ) (more : List (List ℕ)) → count_line word max first more ≡ Some n → (1 ≤ n) × (n ≤ max)
 count_bounds word max n first more h = only_count-bounds max n more (chosen (bytes_eq first word) (only_count max more) n h).1
 

@@ -30,16 +30,19 @@ use Rattle.script_laws.proofs.Commands.{IsSaid, said_bounds, IsFour, IsHead, nex
 
 -- ---- uses of files
 
+-- kinds that pass the test are one
 same_kind-is : (a b : Kind) → same_kind a b ≡ true → a ≡ b
 same_kind-is Spec Spec e = refl
 same_kind-is Spec Bundle e = absurd cc
 same_kind-is Bundle Spec e = absurd cc
 same_kind-is Bundle Bundle e = refl
 
+-- and a kind passes it with itself
 same_kind-refl : (a : Kind) → same_kind a a ≡ true
 same_kind-refl Spec = refl
 same_kind-refl Bundle = refl
 
+-- a conjunction that holds has both its parts
 both : (a b : Bool) → (a && b) ≡ true → (a ≡ true) × (b ≡ true)
 both true b e = (refl, e)
 both false b e = absurd cc
@@ -50,9 +53,11 @@ same_use-is a b e i =
     let p = both (same_kind a.kind b.kind) (bytes_eq a.name b.name) e in
     record { kind = same_kind-is a.kind b.kind p.0 i; name = (bytes_eq-Decides a.name b.name).0 p.1 i }
 
+-- a use is the same as itself
 same_use-refl : (a : FileUse) → same_use a a ≡ true
 same_use-refl a = rw (same_kind-refl a.kind, (bytes_eq-Decides a.name a.name).1 refl) refl
 
+-- of two uses either is the same as the other, or neither is
 same_use-symm : (a b : FileUse) → same_use a b ≡ same_use b a
 same_use-symm a b = ⊎_elim (λ e. one a b e) (λ e. ⊎_elim (λ f. sym (one b a f)) (λ f. e ∙ sym f) (cases_Bool (same_use b a))) (cases_Bool (same_use a b))
   where
@@ -122,6 +127,7 @@ record IsMentioned (files : List FileUse) (u : FileUse) (more : List FileUse) : 
   differ : IsDistinct same_use files → IsDistinct same_use more
   few : length more ≤ length files + 1
 
+-- a file that was mentioned before keeps its number, and no file is added
 mentioned_again : (files : List FileUse) (u : FileUse) → list_any (same_use u) files ≡ true → IsMentioned files u files
 mentioned_again files u e =
     let lt = found_within (same_use u) files e in
@@ -133,6 +139,7 @@ mentioned_again files u e =
       few = omega arith;
     }
 
+-- a file that is mentioned for the first time comes behind the others
 mentioned_first : (files : List FileUse) (u : FileUse) → list_any (same_use u) files ≡ false → IsMentioned files u (files ++ u ∷ [])
 mentioned_first files u e =
     let n : file_number files u ≡ length files = none_found (same_use u) files e in
@@ -146,6 +153,7 @@ mentioned_first files u e =
       few = omega (arith, length_push files u);
     }
 
+-- so are the files with one that is mentioned, whether it was mentioned before or not
 is_mentioned : (files : List FileUse) (u : FileUse) → IsMentioned files u (mentioned files u)
 is_mentioned files u = by (list_any (same_use u) files) refl
   where
@@ -195,6 +203,7 @@ record IsSound (d : Draft) : Type 0 where
   files_few : length d.files ≤ d.commands
   commands : All (All (IsIn d.head d.files)) (all_lanes d)
 
+-- before the first line the draft is within the limits
 start_is_sound : IsSound start
 unfolding IsDistinct
 start_is_sound = record {
@@ -220,13 +229,16 @@ with_head_is d next s none is = record {
       (λ lane h. weaker (IsIn d.head d.files) (IsIn next d.files) lane (λ c i. absurd (none c i)) h) s.commands;
 }
 
+-- a number that is tested to be less is less
 less : (n m : ℕ) → nat_lt n m ≡ true → n < m
 less n m e = grind (arith, nat_tests)
 
+-- a test that let a value through
 chosen : {X : Type 0} (b : Bool) (o : Option X) (x : X) → cond b o None ≡ Some x → (b ≡ true) × (o ≡ Some x)
 chosen true o x h = (refl, h)
 chosen false o x h = absurd cc
 
+-- what two equal options hold is equal
 some_is : {X : Type 0} (x y : X) → Some x ≡ Some y → x ≡ y
 some_is x y e = cc
 
@@ -289,6 +301,7 @@ with_said_is d g s l w lane (named kind slot name) sound head open_is lt is =
     (file_command_is g s more kind slot number is (file, m.there, refl)) in
     command_more d lane (file_command kind slot number) more sound open_is lt (m.differ sound.differ) m.few stays here
 
+-- a line with a command leaves the draft within the limits
 with_command_line_is : (d e : Draft) (g : GeometryValue) (s l w : ℕ) (current : Option (List Command)) (o : Option Said) → IsSound d → d.head ≡ whole g s l w → d.current ≡ current
     → ((said : Said) → o ≡ Some said → IsSaid g s said) → with_command_line d current o ≡ Some e → IsSound e
 with_command_line_is d e g s l w None o sound head open_is is h = absurd cc
@@ -298,6 +311,7 @@ with_command_line_is d e g s l w (Some lane) (Some said) sound head open_is is h
     subst IsSound (some_is (with_said d lane said) e c.1)
     (with_said_is d g s l w lane said sound head open_is (less d.commands MAX_COMMANDS c.0) (is said refl))
 
+-- a value of one of two
 either : {X : Type 0} (b : Bool) (o p : Option X) (x : X) → cond b o p ≡ Some x → (o ≡ Some x) ⊎ (p ≡ Some x)
 either true o p x h = inl h
 either false o p x h = inr h
@@ -314,6 +328,7 @@ with_next d e h first more is sound none eq = by (next_head h first more) refl e
         let fresh : (c : Command) → IsIn d.head d.files c → ⊥ = λ c i. none c (subst (λ (x : Head). IsIn x d.files c) is i) in
         subst IsSound made (with_head_is d n sound fresh (next_head-bounds h n first more (subst IsHead is sound.head) is_o))
 
+-- a line with words leaves the draft within the limits, if it has no fault
 with_line_is : (h : Head) (d e : Draft) (first : List ℕ) (more : List (List ℕ)) → d.head ≡ h → IsSound d → with_line h d first more ≡ Some e → IsSound e
 with_line_is nothing d e first more is sound eq = with_next d e nothing first more is sound (λ c i. i) eq
 with_line_is (to_fabric g) d e first more is sound eq = with_next d e (to_fabric g) first more is sound (λ c i. i) eq
@@ -324,6 +339,7 @@ with_line_is (whole g s l w) d e first more is sound eq =
     (λ h. with_command_line_is d e g s l w d.current (said_by s (cell_count g) first more) sound is refl (λ said k. said_bounds g s first more said k) h)
     (either (bytes_eq first (codes "lane")) (with_lane d more) (with_command_line d d.current (said_by s (cell_count g) first more)) e eq)
 
+-- and so does any line
 with_words_is : (d e : Draft) (words : List (List ℕ)) → IsSound d → with_words d words ≡ Some e → IsSound e
 with_words_is d e [] sound h = subst IsSound (some_is d e h) sound
 with_words_is d e (first ∷ more) sound h =
@@ -370,6 +386,7 @@ value_is (whole g n l w) d (Some lane) s is open_is sound h =
     } in
     subst (λ (x : ScriptValue). IsScript x × (x.geometry.kind ≡ FourInputs)) (some_is v s h) (script, head.0.kind)
 
+-- the value of a text is within the limits, and its cells have four inputs
 both_of_text : (text : List ℕ) (s : ScriptValue) → ScriptText text s → IsScript s × (s.geometry.kind ≡ FourInputs)
 both_of_text text s h =
     value_is h.end.head h.end h.end.current s refl refl (follows_is start (statements text) h.end start_is_sound h.follows) h.value

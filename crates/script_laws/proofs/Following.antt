@@ -17,6 +17,7 @@ use Rattle.script_defs.specs.Texts.{Follows, ScriptText, IsFirstFaultyLine, Ends
 abbrev ok : {A : Type 0} → A → Result A ScriptError
 ok x = Ok x
 
+-- equal answers have equal values
 ok_is : {A : Type 0} (x y : A) → ok x ≡ ok y → x ≡ y
 ok_is x y e = cc
 
@@ -24,6 +25,7 @@ ok_is x y e = cc
 abbrev err : {A : Type 0} → ScriptError → Result A ScriptError
 err f = Err f
 
+-- equal answers have equal faults
 err_is : {A : Type 0} (f g : ScriptError) → err {A = A} f ≡ err g → f ≡ g
 err_is f g e = cc
 
@@ -91,11 +93,13 @@ stops d (s ∷ ss) fault e = stops_by (with_words d s.words) d s ss fault refl e
 abbrev finished : List ℕ → Draft → Result ScriptValue ScriptError
 finished text d = ok_or (value_of d) (Line (line_behind text))
 
+-- a text that isn't too long is read line after line
 reading-short : (text : List ℕ) → length text ≤ MAX_SCRIPT_BYTES → reading text ≡ (with_statements start (statements text) >>= finished text)
 reading-short text h =
     let short : nat_le (length text) MAX_SCRIPT_BYTES ≡ true = grind (arith, nat_tests) in
     rw short refl
 
+-- a text that is too long has this fault, and no line is read
 reading-long : (text : List ℕ) → MAX_SCRIPT_BYTES < length text → reading text ≡ Err TooLong
 reading-long text h =
     let long : nat_le (length text) MAX_SCRIPT_BYTES ≡ false = grind (arith, nat_tests) in
@@ -108,9 +112,11 @@ read_value text s h =
     ∙ ap (λ (r : Result Draft ScriptError). r >>= finished text) (with_statements-Follows start (statements text) h.end h.follows)
     ∙ ap (λ (o : Option ScriptValue). ok_or o (Line (line_behind text))) h.value
 
+-- where the test of the length passes, the text isn't too long
 within : (text : List ℕ) → nat_le (length text) MAX_SCRIPT_BYTES ≡ true → length text ≤ MAX_SCRIPT_BYTES
 within text e = grind (arith, nat_tests)
 
+-- and where it fails, the text is too long
 beyond : (text : List ℕ) → nat_le (length text) MAX_SCRIPT_BYTES ≡ false → MAX_SCRIPT_BYTES < length text
 beyond text e = grind (arith, nat_tests)
 

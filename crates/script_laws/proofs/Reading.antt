@@ -6,6 +6,7 @@ use Rattle.script_defs.specs.Reading.{reading}
 use Rattle.script_defs.specs.Texts.{ScriptOf}
 use Rattle.script_laws.proofs.Following.{read_value, value_read, read_fault, fault_read}
 
+-- what is answered for a text: its value or a fault
 abbrev Read : Type 0
 Read = Result ScriptValue ScriptError
 

@@ -49,6 +49,7 @@ bit b = cond b 1 0
 empty_never : (f c : ℕ) → bit (is_live c (record { first = f; end = 0 })) ≡ 0
 empty_never f c = grind (arith, nat_tests)
 
+-- what two equal options hold is equal
 same_some : (m n : ℕ) → Some m ≡ Some n → m ≡ n
 same_some m n e = cc
 
@@ -60,6 +61,7 @@ seat_free_from inputs g spans seats i seat seated signals None h seat_is apart e
 seat_free_from inputs g spans seats i seat seated signals (Some n) h seat_is apart e =
     let was = h.named seat n e in absurd (apart n was.0 (was.1 ∙ sym seat_is))
 
+-- so the seat of the next signal is empty
 seat_free : (inputs : ℕ) (g : GeometryValue) (spans : List Span) (seats : List ℕ) (i seat : ℕ) (seated : List Span) (signals : List (Option ℕ))
     → HaveSeats inputs g spans seats i seated signals → get_or seats i 0 ≡ seat → ((m : ℕ) → m < i → get_or seats m 0 ≡ get_or seats i 0 → ⊥)
     → get_or signals seat None ≡ None

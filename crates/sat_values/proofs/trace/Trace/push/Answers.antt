@@ -4,6 +4,7 @@ use Rattle.clause_laws.proofs.TraceLemmas.{CanFollow}
 use Rattle.sat_values.proofs.TraceLemmas.{entry, Grows, AreTrace-grown, entries_of-grown}
 use Rattle.sat_values.proofs.trace.Trace.push.Goals as goal
 
+-- the lists grow by the clause that is pushed, which is stated and has no sign
 grows : (c : goal.After-self-1)
     → Grows c.self.inside.columns.indices.items c.push.new.self.indices.items c.self.inside.columns.lits.lists c.push.new.self.lits.lists
     c.self.inside.columns.antecedents.lists c.push.new.self.antecedents.lists c.self.inside.signs.items c.self.inside.signs.items

@@ -40,6 +40,7 @@ returns-in_err-push-clause-err c =
     ∙ ap (λ (xs : List (List ℕ)). entries_of c.self.inside.columns.indices.items c.self.inside.columns.lits.lists xs c.fill.new.signs.items) kept.same_antecedents
     ∙ entries_of-same_signs c.self.inside.columns.indices.items c.self.inside.columns.lits.lists c.self.inside.columns.antecedents.lists c.self.inside.signs.items c.fill.new.signs.items (λ k lt. c.fill.ensures.same k) ∙ c.self.view_is)
 
+-- the lists grow by the clause that is pushed, which has the sign in the place of its literals
 grows : (c : goal.After-push_reserved)
     → Grows c.self.inside.columns.indices.items c.push.new.self.indices.items c.self.inside.columns.lits.lists c.push.new.self.lits.lists
     c.self.inside.columns.antecedents.lists c.push.new.self.antecedents.lists c.self.inside.signs.items c.push_reserved.new.self.items

@@ -4,7 +4,7 @@ use Rattle.clause_defs.specs.Literals.{Literal, negation}
 use Rattle.clause_defs.specs.Clauses.{Lits, Has}
 use Rattle.clause_defs.specs.Resolution.{Clashes, Step, NoClash, ManyClash}
 use Rattle.clause_laws.proofs.LiteralLemmas.{literal_cases, negation-negation}
-use Rattle.chain_check.specs.Steps.{IsPivot, AddsToStep}
+use Rattle.chain_check.specs.Steps.{IsPivot, AddsToStep, RepeatsNone}
 use Rattle.chain_check.proofs.ClauseLists.{Has-take_more, Has-take, has_cases, negation_swap, not_own_negation}
 
 module _ (r c : Lits) (i : ℕ) (l : Literal) (lt : i < length c) (read : l ≡ get_or c i l) where
@@ -22,6 +22,14 @@ module _ (r c : Lits) (i : ℕ) (l : Literal) (lt : i < length c) (read : l ≡ 
           | inr e ↦ (added x).1 (inr (sym e, h.2))
         ],
       )
+
+  -- with a literal more that isn't in the running clause, or clashes with it, none is repeated if none was
+  pub repeats_still : (Has r l → Has r (negation l)) → RepeatsNone r (take i c) → RepeatsNone r (take (i + 1) c)
+  repeats_still calm before x h there =
+      elim ((Has-take_more c i l x lt read).0 h) [
+        | inl k ↦ before x k there
+        | inr e ↦ subst (λ m. Has r (negation m)) e (calm (subst (Has r) (sym e) there))
+      ]
 
   -- one more literal whose negation isn't in the running clause clashes with none
   none_still : (Has r (negation l) → ⊥) → NoClash r (take i c) → NoClash r (take (i + 1) c)
@@ -122,3 +130,9 @@ module _ (r c f s : Lits) (p : Literal) (pivot : IsPivot r c (Some p)) (adds : A
       ],
     );
   }
+
+-- a clause that repeats no literal of the running clause doesn't have the pivot
+pub pivot_absent : (r c : Lits) (p : Literal) → IsPivot r c (Some p) → RepeatsNone r c → Has c p → ⊥
+pivot_absent r c p pivot none there =
+    let clash : Clashes r c (negation p) = (none p there pivot.0.0, subst (Has c) (sym (negation-negation p)) there) in
+    not_own_negation p (sym (pivot.1 (negation p) clash))

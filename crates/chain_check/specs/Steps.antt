@@ -14,6 +14,10 @@ IsPivot r c (Some p) = Clashes r c p × ((l : Literal) → Clashes r c l → l �
 abbrev pub AddsToStep : Lits → Lits → Lits → Type 0
 AddsToStep r c f = (l : Literal) → Has f l ↔ (Has c l × (Has r (negation l) → ⊥) × (Has r l → ⊥))
 
+-- a literal of c that stands in r clashes with r, too
+abbrev pub RepeatsNone : Lits → Lits → Type 0
+RepeatsNone r c = (l : Literal) → Has c l → Has r l → Has r (negation l)
+
 -- where the literals of r clash with c, and s, what is left after a step where they clash once
 abbrev pub StepGives : Lits → Lits → Clash → Lits → Type 0
 StepGives r c Clash.NoClash s = NoClash r c

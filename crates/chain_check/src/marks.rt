@@ -1,4 +1,4 @@
-ghost use Rattle.std.specs.Prelude.{◌≡◌, ◌≢◌, ℕ, ◌+◌, ◌-◌, ◌^◌, ◌<◌, ◌≤◌, ◌↔◌, ◌⊎◌, [], length, vec_capacity, IfOk, IsTrue};
+ghost use Rattle.std.specs.Prelude.{◌≡◌, ◌≢◌, false, ℕ, ◌+◌, ◌-◌, ◌^◌, ◌<◌, ◌≤◌, ◌↔◌, ◌⊎◌, [], length, vec_capacity, IfOk, IsTrue};
 ghost use Rattle.std.specs.Bool.{OnTrue, OnFalse};
 ghost use Rattle.clause_defs.specs.Literals.{Literal};
 ghost use Rattle.clause_defs.specs.Clauses.{Has, SameSet, IsOrdered, WithinVariables};
@@ -124,6 +124,7 @@ impl Marks {
             → Has self.new.fresh x
             ↔ (Has self.old.fresh x ⊎ ((x ≡ l) × (Has self.old.running x → ⊥))) }
         ensures new { OnTrue result (length self.new.fresh ≡ length self.old.fresh + 1) }
+        ensures absent { OnTrue result (Has self.old.running l → ⊥) }
         ensures there { OnFalse result (length self.new.fresh ≡ length self.old.fresh) }
     {
         let place = l.code() as usize;
@@ -219,11 +220,14 @@ impl Marks {
     {
         let mut pivot = None;
         let mut added = 0;
+        let mut repeats = false;
         for &l in c {
             let opposite = l.negated();
             if !self.holds(opposite) {
                 if self.add(l) {
                     added += 1;
+                } else {
+                    repeats = true;
                 }
                 continue;
             }
@@ -240,7 +244,7 @@ impl Marks {
         let Some(pivot) = pivot else {
             return Clash::NoClash;
         };
-        if !has(c, pivot) {
+        if !has_pivot(c, pivot, repeats) {
             self.remove(pivot);
         }
         Clash::OneClash
@@ -287,6 +291,15 @@ impl Marks {
             }
         }
     }
+}
+
+/// Whether the pivot of a step stands in the clause. It does only where the clause repeats a literal of
+/// the running clause, so that most clauses aren't gone over again.
+fn has_pivot(c: &[Lit], pivot: Lit, repeats: bool) -> bool
+    requires { repeats ≡ false → Has c.now pivot → ⊥ }
+    ensures { IsTrue result ↔ Has c.now pivot }
+{
+    repeats && has(c, pivot)
 }
 
 /// Whether the literal stands in the clause.

@@ -1,6 +1,6 @@
 use Rattle.std.proofs.Common.{ap, arith}
 use Rattle.chain_check.specs.Marks.{Marked}
-use Rattle.chain_check.proofs.KeptLemmas.{kept_added, running_added, Has-added, length-added, Has-there}
+use Rattle.chain_check.proofs.KeptLemmas.{kept_added, running_added, Has-added, length-added, Has-there, not_running}
 use Rattle.chain_check.proofs.marks.Marks.add.Goals as goal
 
 -- a literal that stood there already changes nothing
@@ -49,6 +49,16 @@ returns-clause-new c =
     let m = c.self.inside in
     let size = ap (λ (v : Marked). v.variables) c.self.view_is in
     length-added m.variables m.numbers.items m.first m.current m.count c.self.invariant
+    c.args.self.now.running c.args.self.now.fresh
+    (ap (λ (v : Marked). v.running) c.self.view_is) (ap (λ (v : Marked). v.fresh) c.self.view_is)
+    c.args.l (omega arith) c.code-place.result c.index.result.now c.code-place.ensures.code c.index.ensures (let e = c.from-number.ensures in omega arith)
+
+-- a literal with an earlier number isn't in the running clause
+pub returns-clause-absent : goal.returns-clause-absent
+returns-clause-absent c =
+    let m = c.self.inside in
+    let size = ap (λ (v : Marked). v.variables) c.self.view_is in
+    not_running m.variables m.numbers.items m.first m.current m.count c.self.invariant
     c.args.self.now.running c.args.self.now.fresh
     (ap (λ (v : Marked). v.running) c.self.view_is) (ap (λ (v : Marked). v.fresh) c.self.view_is)
     c.args.l (omega arith) c.code-place.result c.index.result.now c.code-place.ensures.code c.index.ensures (let e = c.from-number.ensures in omega arith)

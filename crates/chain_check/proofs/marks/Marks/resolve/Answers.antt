@@ -4,9 +4,9 @@ use Rattle.std.proofs.lemmas.List.{take_all}
 use Rattle.clause_defs.specs.Literals.{Literal, negation, code}
 use Rattle.clause_defs.specs.Clauses.{Lits, Has}
 use Rattle.pch_base.specs.LitCodes.{code_injective}
-use Rattle.chain_check.specs.Steps.{IsPivot, AddsToStep}
+use Rattle.chain_check.specs.Steps.{IsPivot, AddsToStep, RepeatsNone}
 use Rattle.chain_check.proofs.ClauseLists.{Has-get}
-use Rattle.chain_check.proofs.StepLemmas.{adds_more, adds_same, pivot_same, pivot_first, pivot_again, several, step_kept, step_removed}
+use Rattle.chain_check.proofs.StepLemmas.{adds_more, adds_same, pivot_same, pivot_first, pivot_again, several, step_kept, step_removed, repeats_still, pivot_absent}
 use Rattle.chain_check.proofs.marks.Marks.resolve.Goals as goal
 use Rattle.chain_check.proofs.marks.Marks.resolve.Goals.{then-add, else-add, in-None, in-Some+else-ne}
 
@@ -47,6 +47,12 @@ loop-l-preserved-then-not-holds c =
         | then-add w ↦ let is = w.added-is in omega arith
         | else-add w ↦ let is = w.added-is in omega arith
       ];
+      repeats = elim c.if-add.branch [
+        | then-add w ↦ λ e. repeats_still r c.args.c.now c.loop-l.l-index l lt c.l-item.is
+            (λ h. absurd ((w.if-add.ensures {u = tt}).absent (subst (λ (q : Lits). Has q l) (sym c.loop-l.invariant.running) h)))
+            (c.loop-l.invariant.repeats (sym w.repeats-is ∙ e))
+        | else-add w ↦ λ e. absurd (true≢false (sym w.repeats-is ∙ e))
+      ];
       pivot = pivot_same r c.args.c.now c.loop-l.l-index l lt c.l-item.is c.loop-l.pivot calm c.loop-l.invariant.pivot;
     }
 
@@ -75,6 +81,7 @@ loop-l-preserved c =
       fresh = adds_same r c.args.c.now c.loop-l.l-index l c.loop-l-test.true c.l-item.is c.loop-l.self.fresh clash c.loop-l.invariant.fresh;
       counted = c.loop-l.invariant.counted;
       small = let before = c.loop-l.invariant.small in omega arith;
+      repeats = λ e. repeats_still r c.args.c.now c.loop-l.l-index l c.loop-l-test.true c.l-item.is (λ h. clash) (c.loop-l.invariant.repeats e);
       pivot = elim c.match-pivot.branch [
         | in-None w ↦ subst (IsPivot r (take (c.loop-l.l-index + 1) c.args.c.now)) (ap Some (sym c.negated-opposite.ensures) ∙ sym w.pivot-is)
             (pivot_first r c.args.c.now c.loop-l.l-index l c.loop-l-test.true c.l-item.is clash
@@ -88,9 +95,19 @@ loop-l-preserved c =
       ];
     }
 
+-- where no literal was repeated the clause doesn't have the pivot
+pub has_pivot-requires : goal.has_pivot-requires
+has_pivot-requires c =
+    let r = c.args.self.now.running in
+    let p = c.in-Some-pivot.pivot in
+    let whole : take c.loop-l.l-index c.args.c.now ≡ c.args.c.now = take_all c.loop-l.l-index c.args.c.now c.loop-l-test.false in
+    λ none. pivot_absent r c.args.c.now p
+    (subst (λ (d : Lits). IsPivot r d (Some p)) whole (subst (IsPivot r (take c.loop-l.l-index c.args.c.now)) c.in-Some-pivot.is c.loop-l.invariant.pivot))
+    (subst (RepeatsNone r) whole (c.loop-l.invariant.repeats none))
+
 -- without a pivot no literal clashes
-pub returns-then-not-has-clause-step : goal.returns-then-not-has-clause-step
-returns-then-not-has-clause-step c =
+pub returns-then-not-has_pivot-clause-step : goal.returns-then-not-has_pivot-clause-step
+returns-then-not-has_pivot-clause-step c =
     let r = c.args.self.now.running in
     let f = c.loop-l.self.fresh in
     let p = c.in-Some-pivot.pivot in
@@ -99,12 +116,12 @@ returns-then-not-has-clause-step c =
     (subst (λ (d : Lits). IsPivot r d (Some p)) whole (subst (IsPivot r (take c.loop-l.l-index c.args.c.now)) c.in-Some-pivot.is c.loop-l.invariant.pivot))
     (subst (λ (d : Lits). AddsToStep r d f) whole c.loop-l.invariant.fresh)
     (subst (λ (q : Lits). (x : Literal) → Has c.settle.new.self.running x ↔ (Has q x ⊎ Has f x)) c.loop-l.invariant.running c.settle.ensures.running)
-    (λ h. true≢false (sym (c.has.ensures.1 h) ∙ c.if-not-has.true))
+    (λ h. true≢false (sym (c.has_pivot.ensures.1 h) ∙ c.if-not-has_pivot.true))
     c.remove.new.self.running c.remove.ensures.running
 
 -- with one pivot the running clause is the resolvent
-pub returns-else-not-has-clause-step : goal.returns-else-not-has-clause-step
-returns-else-not-has-clause-step c =
+pub returns-else-not-has_pivot-clause-step : goal.returns-else-not-has_pivot-clause-step
+returns-else-not-has_pivot-clause-step c =
     let r = c.args.self.now.running in
     let f = c.loop-l.self.fresh in
     let p = c.in-Some-pivot.pivot in
@@ -113,4 +130,4 @@ returns-else-not-has-clause-step c =
     (subst (λ (d : Lits). IsPivot r d (Some p)) whole (subst (IsPivot r (take c.loop-l.l-index c.args.c.now)) c.in-Some-pivot.is c.loop-l.invariant.pivot))
     (subst (λ (d : Lits). AddsToStep r d f) whole c.loop-l.invariant.fresh)
     (subst (λ (q : Lits). (x : Literal) → Has c.settle.new.self.running x ↔ (Has q x ⊎ Has f x)) c.loop-l.invariant.running c.settle.ensures.running)
-    (c.has.ensures.0 c.if-not-has.false)
+    (c.has_pivot.ensures.0 c.if-not-has_pivot.false)

@@ -1,5 +1,5 @@
-use Rattle.std.proofs.Common.{◌≡◌, ◌≤◌, length, take}
-use Rattle.chain_check.specs.Steps.{IsPivot, AddsToStep}
+use Rattle.std.proofs.Common.{◌≡◌, ◌≤◌, false, length, take}
+use Rattle.chain_check.specs.Steps.{IsPivot, AddsToStep, RepeatsNone}
 use Rattle.chain_check.proofs.marks.Marks.resolve.Given as goal
 
 -- the step's new literals and its pivot are those of the antecedent's literals so far
@@ -11,5 +11,6 @@ invariant-loop-l l = record {
   fresh : AddsToStep l.initial.self.running (take l.l-index l.c) l.self.fresh;
   counted : l.added ≡ length l.self.fresh;
   small : l.added ≤ l.l-index;
+  repeats : l.repeats ≡ false → RepeatsNone l.initial.self.running (take l.l-index l.c);
   pivot : IsPivot l.initial.self.running (take l.l-index l.c) l.pivot;
 }

@@ -12,7 +12,7 @@ use Rattle.tree_defs.specs.Budgets.{Enough}
 use Rattle.place_net.specs.Placings.{Placed}
 use Rattle.route_defs.specs.declared.demand.Demand.{Demand}
 use Rattle.pch_io.specs.Outside.{Rose, Appends}
-use Rattle.pch_lines.specs.Words.{Form, check, verify, cnf, compact, place, produce}
+use Rattle.pch_lines.specs.Words.{Form, check, verify, cnf, compact, place, produce, demo}
 use Rattle.pch_lines.specs.RouteLines.{unroutable_line}
 use Rattle.pch_shell.specs.Outcomes.{Outcome, unroutable}
 use Rattle.pch_shell.specs.Runs.{StoreState, SinkState}
@@ -23,8 +23,8 @@ use Rattle.pch_shell.specs.declared.status.Status.TheVariants.{Done, Store, Sink
 abbrev pub AreToldAlike : Outcome → Outcome → Type 0
 AreToldAlike o p = (o.status ≡ p.status) × (o.text ≡ p.text)
 
--- A command whose files determine the status and the text: each but `produce`, which may find any bundle and any
--- difference, or spend a budget that is less than what is enough.
+-- A command whose files determine the status and the text: each but `produce` and `demo`, which may find any bundle and
+-- any difference, or spend a budget that is less than what is enough.
 abbrev pub TellsOneThing : Form → Type 0
 TellsOneThing (check cnf_name trace_name) = Unit {0}
 TellsOneThing (verify spec_name bundle_name g workers) = Unit {0}
@@ -32,8 +32,9 @@ TellsOneThing (cnf spec_name bundle_name) = Unit {0}
 TellsOneThing (compact bundle_name out_name) = Unit {0}
 TellsOneThing (place design_name g out_name) = Unit {0}
 TellsOneThing (produce spec_name design_name g budget out_name) = ⊥
+TellsOneThing (demo bits out_name) = ⊥
 
--- A command whose files determine the bytes that it saves: each but `produce` and `place`, which may save any
+-- A command whose files determine the bytes that it saves: each but `produce`, `demo` and `place`, which may save any
 -- configuration that places the design.
 abbrev pub SavesOneThing : Form → Type 0
 SavesOneThing (check cnf_name trace_name) = Unit {0}
@@ -42,6 +43,7 @@ SavesOneThing (cnf spec_name bundle_name) = Unit {0}
 SavesOneThing (compact bundle_name out_name) = Unit {0}
 SavesOneThing (place design_name g out_name) = ⊥
 SavesOneThing (produce spec_name design_name g budget out_name) = ⊥
+SavesOneThing (demo bits out_name) = ⊥
 
 -- A run ends as the outcome says: with its status, when its text was written; or a fault of the outside was counted,
 -- and the status says which; or memory was wanting.

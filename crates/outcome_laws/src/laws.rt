@@ -17,9 +17,9 @@ ghost use Rattle.pch_shell.specs.Runs.{StoreState, SinkState, Runs};
 ghost use Rattle.pch_shell.specs.declared.status.Status.{Status};
 ghost use Rattle.outcome_laws.specs.Telling.{AreToldAlike, TellsOneThing, SavesOneThing, EndsAs, IsAnsweredBy, IsSearched};
 
-/// The bytes of a command's files come to one status and one text that is due, but for `produce`. They
-/// come to one thing to save as well, if any, but for `place` too: it may save any configuration that
-/// places the design.
+/// The bytes of a command's files come to one status and one text that is due, but for `produce` and
+/// `demo`. They come to one thing to save as well, if any, but for `place` too: it may save any
+/// configuration that places the design.
 pub fn files_have_one_outcome()
     ensures told { (form : Form) (files : List (List ℕ)) (o p : Outcome) → TellsOneThing form
         → FilesDue form files o → FilesDue form files p → AreToldAlike o p }

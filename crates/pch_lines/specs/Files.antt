@@ -3,7 +3,7 @@ use Rattle.std.specs.Prelude.{ℕ, List, [], ◌∷◌, Option, Some, None}
 use Rattle.sat_text_defs.specs.declared.limits.TheConstants.{MAX_CNF_BYTES, MAX_TRACE_BYTES}
 use Rattle.blif_defs.specs.declared.mark.TheConstants.{MAX_BYTES}
 use Rattle.bundle_defs.specs.declared.limits.TheConstants.{MAX_BUNDLE_BYTES}
-use Rattle.pch_lines.specs.Words.{Form, check, verify, cnf, compact, place, produce}
+use Rattle.pch_lines.specs.Words.{Form, check, verify, cnf, compact, place, produce, demo}
 
 -- a file that is to be loaded: its name, and the most bytes that it may have
 pub record FileValue : Type 0 where
@@ -22,6 +22,7 @@ files_of (compact bundle out) = record { name = bundle; limit = MAX_BUNDLE_BYTES
 files_of (place design g out) = record { name = design; limit = MAX_BYTES } ∷ []
 files_of (produce spec design g budget out) =
     record { name = spec; limit = MAX_BYTES } ∷ record { name = design; limit = MAX_BYTES } ∷ []
+files_of (demo bits out) = []
 
 -- the name of the file that is saved
 abbrev pub out_of : Form → Option (List ℕ)
@@ -31,3 +32,4 @@ out_of (cnf spec bundle) = None
 out_of (compact bundle out) = Some out
 out_of (place design g out) = Some out
 out_of (produce spec design g budget out) = Some out
+out_of (demo bits out) = Some out

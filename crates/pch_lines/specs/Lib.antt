@@ -1,4 +1,5 @@
 pub mod Commands
+pub mod DemoLines
 pub mod FaultLines
 pub mod Files
 pub mod Lines

@@ -8,6 +8,7 @@ use Rattle.fabric_defs.specs.declared.kind.CellKind.TheVariants.{FourInputs, Six
 use Rattle.fabric_defs.specs.Geometries.{GeometryValue}
 use Rattle.fabric_defs.specs.declared.limits.TheConstants.{MAX_SIDE, MAX_TRACKS}
 use Rattle.script_defs.specs.declared.limits.TheConstants.{MAX_WORKERS}
+use Rattle.demo_texts.specs.declared.TheConstants.{MAX_BITS}
 use Rattle.miter_size.specs.declared.limits.TheConstants.{MAX_BUDGET}
 
 -- the words of a command line, without the program's own name
@@ -28,6 +29,8 @@ pub data Form : Type 0 where
   place : List ℕ → GeometryValue → List ℕ → Form
   -- produce SPEC DESIGN C R T I O BUDGET OUT
   produce : List ℕ → List ℕ → GeometryValue → ℕ → List ℕ → Form
+  -- demo BITS OUT
+  demo : ℕ → List ℕ → Form
 
 -- ---- numbers and fabrics
 
@@ -118,12 +121,18 @@ fabric_form kind (w ∷ []) = None
 fabric_form kind (w ∷ first ∷ []) = None
 fabric_form kind (w ∷ first ∷ second ∷ more) = form_on kind w first second more
 
+-- `demo` with this name, where the number of bits is there
+abbrev pub demo_with : Option ℕ → List ℕ → Option Form
+demo_with None out = None
+demo_with (Some bits) out = Some (demo bits out)
+
 -- the commands of three words
 abbrev pub file_form : List ℕ → List ℕ → List ℕ → Option Form
 file_form word first second =
     if bytes_eq word (codes "check") then Some (check first second)
     else (if bytes_eq word (codes "cnf") then Some (cnf first second)
-    else (if bytes_eq word (codes "compact") then Some (compact first second) else None))
+    else (if bytes_eq word (codes "compact") then Some (compact first second)
+    else (if bytes_eq word (codes "demo") then demo_with (count_in MAX_BITS first) second else None)))
 
 -- the commands whose first word isn't `six`
 abbrev pub plain_form : List (List ℕ) → Option Form

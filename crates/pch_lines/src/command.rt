@@ -49,6 +49,11 @@ pub enum Command<'a> {
         budget: u32,
         out: &'a str,
     },
+    /// `demo BITS OUT`
+    Demo {
+        bits: u32,
+        out: &'a str,
+    },
 }
 
 /// A file that is to be loaded.
@@ -122,6 +127,7 @@ impl<'a> Command<'a> {
             Command::Produce { spec, design, .. } => {
                 Ok(vec![in alloc; NamedFile::design(spec), NamedFile::design(design)]?)
             }
+            Command::Demo { .. } => Ok(Vec::new(alloc)),
         }
     }
 
@@ -132,7 +138,8 @@ impl<'a> Command<'a> {
         match *self {
             Command::Compact { out, .. }
             | Command::Place { out, .. }
-            | Command::Produce { out, .. } => Some(out),
+            | Command::Produce { out, .. }
+            | Command::Demo { out, .. } => Some(out),
             Command::Check { .. } | Command::Verify { .. } | Command::Cnf { .. } => None,
         }
     }

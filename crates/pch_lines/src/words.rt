@@ -1,10 +1,11 @@
 //! From words to the command that they have the form of.
 
 ghost use Rattle.std.specs.Prelude.{◌≡◌, ◌≤◌, None, Some, MatchOption, IfSome};
-ghost use Rattle.pch_lines.specs.Words.{words_in, form_of, plain_form, file_form, fabric_form, form_on, verify_form, count_in, fabric_in, verify_with, place_form, place_with, produce_form, produce_with};
+ghost use Rattle.pch_lines.specs.Words.{words_in, form_of, plain_form, file_form, fabric_form, form_on, verify_form, count_in, fabric_in, verify_with, place_form, place_with, produce_form, produce_with, demo_with};
 ghost use Rattle.pch_lines.specs.Commands.{form_seen, IsWithinLimits};
 
 use crate::command::Command;
+use demo_texts::MAX_BITS;
 use fabric::Geometry;
 use fabric_defs::{CellKind, MAX_SIDE, MAX_TRACKS};
 use miter_size::MAX_BUDGET;
@@ -37,7 +38,7 @@ fn plain_command(words: &[String]) -> Option<Command<'_>>
     }
 }
 
-/// The command of a word and the names of two files.
+/// The command of a word and two words more.
 fn file_command<'a>(word: &str, first: &'a str, second: &'a str) -> Option<Command<'a>>
     ensures command { MatchOption result (file_form word.now first.now second.now ≡ None)
         (λ c. file_form word.now first.now second.now ≡ Some (form_seen c)) }
@@ -56,8 +57,19 @@ fn file_command<'a>(word: &str, first: &'a str, second: &'a str) -> Option<Comma
             bundle: first,
             out: second,
         }),
+        "demo" => demo_of(count_of(first, MAX_BITS), second),
         _ => None,
     }
+}
+
+/// `demo` with this name, where the number of bits is there.
+fn demo_of(bits: Option<u32>, out: &str) -> Option<Command<'_>>
+    requires { IfSome bits (λ n. (1 ≤ n) × (n ≤ MAX_BITS)) }
+    ensures command { MatchOption result (demo_with bits out.now ≡ None)
+        (λ c. demo_with bits out.now ≡ Some (form_seen c)) }
+    ensures limits { IfSome result IsWithinLimits }
+{
+    Some(Command::Demo { bits: bits?, out })
 }
 
 /// The command that names a fabric, whose cells have this kind.

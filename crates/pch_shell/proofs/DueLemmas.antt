@@ -1,9 +1,10 @@
 -- What the outcome that is due says of the files: which statuses a command comes to, and what each shows.
-use Rattle.std.proofs.Common.{◌≡◌, inl, inr, ℕ, List, [], ◌∷◌, Option, Some, None, sym, ap, subst, ◌∙◌}
+use Rattle.std.proofs.Common.{◌≡◌, inl, inr, ℕ, List, [], ◌∷◌, Option, Some, None, sym, ap, subst, codes, ◌∙◌}
+use Rattle.net_defs.specs.Networks.{Network}
 use Rattle.fabric_defs.specs.Geometries.{GeometryValue}
 use Rattle.route_defs.specs.declared.demand.Demand.{Demand}
 use Rattle.pch_io.specs.Outside.{Files, Saves}
-use Rattle.pch_lines.specs.Words.{Form, check, verify, cnf, compact, place, produce}
+use Rattle.pch_lines.specs.Words.{Form, check, verify, cnf, compact, place, produce, demo}
 use Rattle.pch_lines.specs.Files.{out_of}
 use Rattle.pch_lines.specs.RouteLines.{unroutable_line}
 use Rattle.pch_lines.specs.ProduceLines.{differs_line, spent_line}
@@ -13,7 +14,13 @@ use Rattle.pch_shell.specs.Verify.{IsAccepted, VerifyDue}
 use Rattle.pch_shell.specs.Cnf.{CnfDue}
 use Rattle.pch_shell.specs.Compact.{CompactDue}
 use Rattle.pch_shell.specs.Place.{IsUnroutable, PlaceDue}
-use Rattle.pch_shell.specs.Produce.{IsDifference, NeedsMore, IsSpent, ProduceDue}
+use Rattle.pch_shell.specs.Produce.{IsDifference, NeedsMore, IsSpent, ToldOfEnd, ProduceDue}
+use Rattle.pch_shell.specs.Demo.{EndsAsProduce, IsFabricFor, DemoDue}
+use Rattle.pch_shell.proofs.ProduceLemmas.{ended_due}
+use Rattle.produce.specs.declared.produce_end.ProduceEnd.{ProduceEnd}
+use Rattle.produce.specs.declared.produce_end.ProduceEnd.TheVariants as ends
+use Rattle.demo_texts.specs.Texts.{ripple_text, select_text}
+use Rattle.demonstration.specs.declared.limits.TheConstants.{BUDGET}
 use Rattle.pch_shell.specs.Due.{OfOne, OfTwo, FilesDue, Holds, Differ, NeedMore, Spend}
 use Rattle.pch_shell.specs.Runs.{StoreState, AreSaved, HoldsOut}
 use Rattle.pch_shell.specs.declared.status.Status.{Status}
@@ -98,6 +105,25 @@ produce_status P d x u s b sn dn g budget spec design o (inr (inr (inr (inr (inl
 produce_status P d x u s b sn dn g budget spec design o (inr (inr (inr (inr (inr (inl h)))))) = subst P (sym (status_of o _ h.2)) b
 produce_status P d x u s b sn dn g budget spec design o (inr (inr (inr (inr (inr (inr h)))))) = subst P (sym (status_of o _ h.2)) b
 
+-- where nothing is produced from both adders, `produce` of their texts comes to the same
+as_produced : (bits : ℕ) (o : Outcome) (e : EndsAsProduce bits o)
+    → ProduceDue (codes "ripple") (codes "select") e.g BUDGET (ripple_text bits) (select_text bits) o
+as_produced bits o e =
+    ended_due (codes "ripple") (codes "select") e.g BUDGET (ripple_text bits) (select_text bits) e.wanted e.given e.end o
+    (record { specified = e.adders.specified; designed = e.adders.designed }) e.ends e.told
+
+-- on the fabric that is the least one for the second adder
+fabric_for : (bits : ℕ) (o : Outcome) (e : EndsAsProduce bits o) → IsFabricFor bits e.g
+fabric_for bits o e = (e.given, e.adders.designed, e.adders.least)
+
+-- of those of `demo`
+demo_status : (P : Status → Type 0) → P Done → P Differs → P Unroutable → P Spent → P BadInput → (bits : ℕ) (o : Outcome)
+    → DemoDue bits o → P o.status
+demo_status P d x u s b bits o (inl h) = subst P (sym (status_of o _ h.3)) d
+demo_status P d x u s b bits o (inr (inl e)) = produce_status P d x u s b (codes "ripple") (codes "select") _ _ _ _ o (as_produced bits o e)
+demo_status P d x u s b bits o (inr (inr (inl h))) = subst P (sym (status_of o _ h.2)) b
+demo_status P d x u s b bits o (inr (inr (inr h))) = subst P (sym (status_of o _ h.2)) b
+
 -- a status that the work of a command comes to; the others come of its words, of the outside and of want of memory
 abbrev pub IsOfWork : Status → Type 0
 IsOfWork Done = Unit {0}
@@ -120,6 +146,7 @@ due_work (compact bn out) files o h = of_one files _ _ h (λ a due. compact_stat
 due_work (place dn g out) files o h = of_one files _ _ h (λ a due. place_status IsOfWork tt tt tt dn g a o due)
 due_work (produce sn dn g budget out) files o h =
     of_two files _ _ h (λ a b due. produce_status IsOfWork tt tt tt tt tt sn dn g budget a b o due)
+due_work (demo bits out) files o h = demo_status IsOfWork tt tt tt tt tt bits o h
 
 -- ---- what status 0 shows
 
@@ -197,6 +224,23 @@ produce_shows sn dn g budget spec design out o old new done (inr (inr (inr (inr 
 produce_shows sn dn g budget spec design out o old new done (inr (inr (inr (inr (inr (inr h)))))) saved =
     absurd (other_status o _ Done h.2 (λ e. cc) done)
 
+-- where nothing was produced, something else is told than that it is done
+told_other : (wanted given : Network) (end : ProduceEnd) (o : Outcome) → ToldOfEnd wanted given end o → o.status ≡ Done → ⊥
+told_other wanted given (ends.Interface error) o is = other_status o _ Done is (λ e. cc)
+told_other wanted given (ends.Unroutable resource which need have) o is = other_status o _ Done is (λ e. cc)
+told_other wanted given (ends.Differs x) o (y, z, differ, is) = other_status o _ Done is (λ e. cc)
+told_other wanted given (ends.Spent used need log) o (bytes, reads, is) = other_status o _ Done is (λ e. cc)
+told_other wanted given ends.NoMemory o is = absurd is
+
+-- where `demo` is done, the bytes are a bundle that is accepted, and the ones are those of its outputs
+demo_shows : (bits : ℕ) (out : List ℕ) (files : List (List ℕ)) (o : Outcome) (old new : StoreState) → o.status ≡ Done → DemoDue bits o
+    → AreSaved (Some out) o.saved old new → ShowsSaved (demo bits out) files new.files
+demo_shows bits out files o old new done (inl (bytes, ones, is, due)) saved =
+    (bytes, saved_as o bytes out old new (saved_of o _ due) saved, (ones, is))
+demo_shows bits out files o old new done (inr (inl e)) saved = absurd (told_other e.wanted e.given e.end o e.told done)
+demo_shows bits out files o old new done (inr (inr (inl h))) saved = absurd (other_status o _ Done h.2 (λ e. cc) done)
+demo_shows bits out files o old new done (inr (inr (inr h))) saved = absurd (other_status o _ Done h.2 (λ e. cc) done)
+
 -- where a command is done, what status 0 shows holds of what is saved
 pub done_shows : (form : Form) (files : List (List ℕ)) (o : Outcome) (old new : StoreState) → o.status ≡ Done → FilesDue form files o
     → AreSaved (out_of form) o.saved old new → ShowsSaved form files new.files
@@ -224,6 +268,7 @@ done_shows (produce sn dn g budget out) (spec ∷ []) o old new done h saved = a
 done_shows (produce sn dn g budget out) (spec ∷ design ∷ []) o old new done h saved =
     produce_shows sn dn g budget spec design out o old new done h saved
 done_shows (produce sn dn g budget out) (spec ∷ design ∷ more ∷ rest) o old new done h saved = absurd h
+done_shows (demo bits out) files o old new done h saved = demo_shows bits out files o old new done h saved
 
 -- ---- what the statuses 6, 7 and 8 show
 
@@ -270,6 +315,37 @@ produce_spent sn dn g budget spec design o is (inr (inr (inr (inr (inl h))))) = 
 produce_spent sn dn g budget spec design o is (inr (inr (inr (inr (inr (inl h)))))) = absurd (other_status o _ Spent h.2 (λ e. cc) is)
 produce_spent sn dn g budget spec design o is (inr (inr (inr (inr (inr (inr h)))))) = absurd (other_status o _ Spent h.2 (λ e. cc) is)
 
+-- where `demo` tells a difference, it is there
+demo_differs : (bits : ℕ) (o : Outcome) → o.status ≡ Differs → DemoDue bits o
+    → (x : List ℕ) × (y : List ℕ) × (z : List ℕ) × IsDifference (ripple_text bits) (select_text bits) x y z
+    × (o ≡ differs (differs_line x y z))
+demo_differs bits o is (inl h) = absurd (other_status o _ Differs h.3 (λ e. cc) is)
+demo_differs bits o is (inr (inl e)) = produce_differs (codes "ripple") (codes "select") _ _ _ _ o is (as_produced bits o e)
+demo_differs bits o is (inr (inr (inl h))) = absurd (other_status o _ Differs h.2 (λ e. cc) is)
+demo_differs bits o is (inr (inr (inr h))) = absurd (other_status o _ Differs h.2 (λ e. cc) is)
+
+-- where it tells that a resource is wanting, it is
+demo_over : (bits : ℕ) (o : Outcome) → o.status ≡ Unroutable → DemoDue bits o
+    → (g : GeometryValue) × IsFabricFor bits g × (over : Demand) × NeedsMore g (ripple_text bits) (select_text bits) over
+    × (o ≡ unroutable (unroutable_line over))
+demo_over bits o is (inl h) = absurd (other_status o _ Unroutable h.3 (λ e. cc) is)
+demo_over bits o is (inr (inl e)) =
+    let found = produce_over (codes "ripple") (codes "select") _ _ _ _ o is (as_produced bits o e) in
+    (e.g, fabric_for bits o e, found.0, found.1, found.2)
+demo_over bits o is (inr (inr (inl h))) = absurd (other_status o _ Unroutable h.2 (λ e. cc) is)
+demo_over bits o is (inr (inr (inr h))) = absurd (other_status o _ Unroutable h.2 (λ e. cc) is)
+
+-- where it tells that its budget is spent, it is
+demo_spent : (bits : ℕ) (o : Outcome) → o.status ≡ Spent → DemoDue bits o
+    → (g : GeometryValue) × IsFabricFor bits g × (used : ℕ) × (need : ℕ) × (bytes : List ℕ)
+    × IsSpent g BUDGET (ripple_text bits) (select_text bits) used need bytes × (o ≡ spent_with bytes (spent_line used need))
+demo_spent bits o is (inl h) = absurd (other_status o _ Spent h.3 (λ e. cc) is)
+demo_spent bits o is (inr (inl e)) =
+    let found = produce_spent (codes "ripple") (codes "select") _ _ _ _ o is (as_produced bits o e) in
+    (e.g, fabric_for bits o e, found.0, found.1, found.2, found.3, found.4)
+demo_spent bits o is (inr (inr (inl h))) = absurd (other_status o _ Spent h.2 (λ e. cc) is)
+demo_spent bits o is (inr (inr (inr h))) = absurd (other_status o _ Spent h.2 (λ e. cc) is)
+
 -- what status 6 shows holds of what is due with it, and nothing is saved
 pub due_differ : (form : Form) (files : List (List ℕ)) (o : Outcome) → o.status ≡ Differs → FilesDue form files o
     → Differ form files o.text × (o.saved ≡ None)
@@ -288,6 +364,9 @@ due_differ (produce sn dn g budget out) files o is h = (
       (found.0, found.1, found.2, found.3, text_of o _ found.4)),
   of_two files _ _ h (λ a b due. let found = produce_differs sn dn g budget a b o is due in saved_of o _ found.4),
 )
+due_differ (demo bits out) files o is h =
+    let found = demo_differs bits o is h in
+    ((found.0, found.1, found.2, found.3, text_of o _ found.4), saved_of o _ found.4)
 
 -- what status 7 shows holds of what is due with it, and nothing is saved
 pub due_over : (form : Form) (files : List (List ℕ)) (o : Outcome) → o.status ≡ Unroutable → FilesDue form files o
@@ -308,6 +387,9 @@ due_over (produce sn dn g budget out) files o is h = (
   map_two files _ _ h (λ a b due. let found = produce_over sn dn g budget a b o is due in (found.0, found.1, text_of o _ found.2)),
   of_two files _ _ h (λ a b due. let found = produce_over sn dn g budget a b o is due in saved_of o _ found.2),
 )
+due_over (demo bits out) files o is h =
+    let found = demo_over bits o is h in
+    ((found.0, found.1, found.2, found.3, text_of o _ found.4), saved_of o _ found.4)
 
 -- what status 8 shows holds of what is due with it, and the file has the log
 pub due_spent : (form : Form) (files : List (List ℕ)) (o : Outcome) (old new : StoreState) → o.status ≡ Spent → FilesDue form files o
@@ -331,3 +413,9 @@ due_spent (produce sn dn g budget out) (spec ∷ design ∷ []) o old new is h k
       (found.0, found.1, found.3, text_of o _ found.4),
     )
 due_spent (produce sn dn g budget out) (spec ∷ design ∷ more ∷ rest) o old new is h kept = absurd h
+due_spent (demo bits out) files o old new is h kept =
+    let found = demo_spent bits o is h in (
+      found.4,
+      saved_as o found.4 out old new (saved_of o _ found.6) kept,
+      (found.0, found.1, found.2, found.3, found.5, text_of o _ found.6),
+    )

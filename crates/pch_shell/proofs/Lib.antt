@@ -1,6 +1,7 @@
 pub mod CheckLemmas
 pub mod CnfLemmas
 pub mod CompactLemmas
+pub mod DemoLemmas
 pub mod DueLemmas
 pub mod LoadLemmas
 pub mod PlaceLemmas

@@ -21,7 +21,7 @@ spent_told wanted given end used need log bytes line o spent reads says is =
     subst (λ e. ToldOfEnd wanted given e o) (sym spent) (bytes, reads, is ∙ ap (spent_with bytes) says)
 
 -- what was told of an end is due
-ended_due : (sn dn : List ℕ) (g : GeometryValue) (budget : ℕ) (spec design : List ℕ) (wanted given : Network) (end : ProduceEnd) (o : Outcome)
+pub ended_due : (sn dn : List ℕ) (g : GeometryValue) (budget : ℕ) (spec design : List ℕ) (wanted given : Network) (end : ProduceEnd) (o : Outcome)
     → Describe spec design wanted given → EndsBy wanted given g budget end → ToldOfEnd wanted given end o
     → ProduceDue sn dn g budget spec design o
 ended_due sn dn g budget spec design wanted given (Interface error) o describe h is =

@@ -1,6 +1,7 @@
 pub mod Check
 pub mod Cnf
 pub mod Compact
+pub mod Demo
 pub mod Due
 pub mod Loading
 pub mod Outcomes

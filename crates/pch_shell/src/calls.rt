@@ -9,7 +9,7 @@ ghost use Rattle.pch_shell.specs.Due.{FilesDue};
 ghost use Rattle.pch_shell.specs.Runs.{Leaves, Tells, WordsTell, Runs};
 ghost use Rattle.pch_shell.specs.SessionRuns.{Answers};
 
-use crate::commands::{check, cnf, compact, placing, producing, verifying};
+use crate::commands::{check, cnf, compact, demonstrating, placing, producing, verifying};
 use crate::ending::Ending;
 use crate::finishing::{finish, save};
 use crate::loading::{Loaded, load_all};
@@ -75,6 +75,7 @@ fn work<R: Threads + Sync>(
                 design_bytes,
             )
         }
+        Command::Demo { bits, .. } => demonstrating::run(rt, alloc, bits),
     }
 }
 

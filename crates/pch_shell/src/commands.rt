@@ -3,6 +3,7 @@
 pub mod check;
 pub mod cnf;
 pub mod compact;
+pub mod demonstrating;
 pub mod placing;
 pub mod producing;
 pub mod verifying;

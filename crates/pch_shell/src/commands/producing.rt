@@ -48,7 +48,7 @@ pub fn run(
 }
 
 /// What is told where nothing was produced, for this reason.
-fn not_produced(
+pub fn not_produced(
     alloc: Global,
     spec: &Net,
     design: &Net,

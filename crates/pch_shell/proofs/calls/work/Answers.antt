@@ -11,3 +11,7 @@ returns-in-Compact g c = rw (c.in-Compact.is, c.one.ensures) c.run-in-Compact.en
 -- and so are the two files of a specification and a design
 pub returns-in-Produce : goal.returns-in-Produce
 returns-in-Produce g c = rw (c.in-Produce.is, c.two-spec_bytes-in-Produce.ensures) c.run-in-Produce.ensures
+
+-- no file is looked at for a number of bits
+pub returns-in-Demo : goal.returns-in-Demo
+returns-in-Demo g c = rw c.in-Demo.is c.run-in-Demo.ensures

@@ -139,16 +139,17 @@ class System:
         ended, counts = self.call(run.words, fault)
         return (*ended, files_in(self.folder)), counts
 
-    def every_fault(self, run):
-        """Refuses each request for memory in turn, and lets each call fail in turn that opens, reads or writes a file.
-        Answers how many of both were tried, and what ended otherwise than it may."""
+    def every_fault(self, run, step=1):
+        """Refuses each request for memory in turn, and lets each call fail in turn that opens, reads or writes a file,
+        or of many only every so many. Answers how many of both were tried, and what ended otherwise than it may."""
         right, (asked, _, outside) = self.ends(run, {})
         if not run.is_right(right[0], right[1]) or right[2]:
             return 0, 0, ["without a fault: status %s, %r, %r" % (right[0], right[1][:200], right[2][:200])]
-        wrong = []
+        tried, wrong = {}, []
         for kind, calls in [("REFUSE", asked), ("FAIL", outside)]:
-            for number in range(1, calls + 1):
+            tried[kind] = range(1, calls + 1, max(1, min(step, calls // 10)))
+            for number in tried[kind]:
                 ended, _ = self.ends(run, {kind: str(number)})
                 if not run.is_fair(kind, ended, right):
                     wrong.append("%s %d of %d: status %s, %r, %r" % (kind, number, calls, ended[0], ended[1][:200], ended[2][:200]))
-        return asked, outside, wrong
+        return len(tried["REFUSE"]), len(tried["FAIL"]), wrong

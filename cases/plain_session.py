@@ -64,13 +64,14 @@ def bundle_fault(data):
     return None, (version, geometry, *parts)
 
 
-def config_fault(geometry, config):
+def config_fault(geometry, config, kind=1):
     columns, rows, tracks, input_pads, output_pads = geometry
-    want = 2 * (tracks + columns * (5 * rows + tracks) + output_pads)
+    pins, table_words = (4, 1) if kind == 1 else (6, 4)
+    want = 2 * (tracks + columns * ((pins + table_words) * rows + tracks) + output_pads)
     if len(config) != want:
         return "config length %d %d" % (want, len(config))
     limits = [input_pads] * tracks
-    limits += (([tracks] * 4 + [65535]) * rows + [rows + 1] * tracks) * columns
+    limits += (([tracks] * pins + [65535] * table_words) * rows + [rows + 1] * tracks) * columns
     limits += [tracks] * output_pads
     for place, (word, limit) in enumerate(zip(words_of(config), limits)):
         if word > limit:

@@ -9,6 +9,7 @@ agreed specification and the running configuration of a slot are looked for in i
 sweep is a loop over its values. `compare` makes designs, places them, writes refutations by branching on
 variables, spoils some of them, and prints its seed.
 """
+import functools
 import hashlib
 import os
 import random
@@ -139,7 +140,7 @@ class Session:
             return "vacant @%d" % at
         if len(bits) != net.inputs:
             return "width %d @%d" % (net.inputs, at)
-        pads, cells = fabric_values(config, bits)
+        pads, cells = fabric_values(config, tuple(bits))
         return "out %s %d @%d" % ("".join(map(str, pads[:len(net.outputs)])) or "-", cells[probe], at)
 
     def sweep(self, slot, first, count):
@@ -178,8 +179,9 @@ class Session:
         return "\n".join(lines) + "\n"
 
 
+@functools.lru_cache(maxsize=1_000)
 def fabric_values(config, bits):
-    """The bits of the output pads and those of the cells by their numbers."""
+    """The bits of the output pads and those of the cells by their numbers; what was asked before is kept."""
     rows = config.geometry[1]
     pad = lambda p: bits[p] if p < len(bits) else 0
     channel, cells = [pad(word - 1) if word else 0 for word in config.channels[0]], []

@@ -39,6 +39,10 @@ def trace_of(data, may_have_signs):
         return "trace %s" % fault, None
 
 
+def without_bundle(fault):
+    return fault[len("bundle "):] if fault.startswith("bundle ") else fault
+
+
 def refusal(geometry, kind, net, data):
     """Why the bundle is refused for the net; None where it is accepted."""
     if net.inputs > geometry[3] or len(net.outputs) > geometry[4]:
@@ -75,7 +79,7 @@ def printed_miter(net, name, data):
         if not fault and (net.inputs > geometry[3] or len(net.outputs) > geometry[4]):
             fault = "pads"
     if fault:
-        return "bundle %s %s\n" % (name, fault.removeprefix("bundle ")), 9
+        return "bundle %s %s\n" % (name, without_bundle(fault)), 9
     words = plain_session.words_of(config)
     variables, formula = plain_verify.miter(net, *plain_verify.sources(geometry, kind_of(version), words))
     order = lambda clause: sorted(clause, key=lambda lit: (abs(lit), lit))
@@ -92,7 +96,7 @@ def compacted(name, data):
         if not fault:
             fault, trace = trace_of(text, False)
     if fault:
-        return "bundle %s %s\n" % (name, fault.removeprefix("bundle ")), 9, None
+        return "bundle %s %s\n" % (name, without_bundle(fault)), 9, None
     index = [clause[0] for clause in trace]
     derived = [k for k, clause in enumerate(trace) if clause[2]]
     order = lambda clause: sorted(clause, key=lambda lit: (abs(lit), lit))

@@ -76,13 +76,13 @@ def read_cnf(data):
     return set(clauses)
 
 
-def read_trace(data):
+def read_trace(data, may_have_signs=True):
     """The clauses of a trace: index, literals as a set or None for the sign, and places of antecedents."""
     places, clauses, part = {}, [], "index"
     for at, _, token in tokens_of(data, False):
         if part == "index" and number(token, 1, MAX_COUNT):
             index, stated, antecedents, part = int(token), [], [], "first"
-        elif part == "first" and token == b"*":
+        elif part == "first" and token == b"*" and may_have_signs:
             stated, part = None, "antecedent behind the sign"
         elif part in ("first", "literal") and token == b"0":
             part = "antecedent"

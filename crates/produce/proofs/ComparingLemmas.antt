@@ -1,49 +1,50 @@
 -- Bits are compared one after another, and the bits of inputs are listed one after another.
-use Rattle.std.proofs.Common.{◌≡◌, ◌≢◌, ℕ, ◌+◌, ◌<◌, ◌≤◌, ◌==◌, inl, inr, Bool, true, false, if◌then◌else◌, List, length, take, get_or, set, refl, sym, ap, subst, ◌∙◌, arith}
+use Rattle.std.proofs.Common.{◌≡◌, ◌≢◌, ℕ, ◌+◌, ◌<◌, ◌≤◌, ◌↔◌, ◌==◌, inl, inr, Bool, IsTrue, true, false, if◌then◌else◌, List, length, take, get_or, set, slice_index, refl, sym, ap, subst, ◌∙◌, arith}
 use Rattle.std.proofs.lemmas.Bool.{cases_lt}
-use Rattle.std.proofs.lemmas.List.{ext_get_or, get_or-take, length-take-le, get_or-set_same, get_or-set_other}
+use Rattle.std.proofs.lemmas.List.{length-map, get_or-set_same, get_or-set_other}
 use Rattle.clause_defs.specs.Clauses.{Lits, Has}
-use Rattle.fabric_defs.specs.Bits.{IsBits}
+use Rattle.net_defs.specs.Networks.{Network, Output}
+use Rattle.net_defs.specs.Evaluation.{SpecOut, output_signals}
+use Rattle.fabric_defs.specs.Configurations.{ConfigValue, output_word}
+use Rattle.fabric_defs.specs.Wirings.{FabOut, channel, tapped_bit}
+use Rattle.fabric_laws.proofs.NumberedLemmas.{length-list_of}
+use Rattle.miter_defs.specs.Equality.{FitsPads}
 use Rattle.miter_defs.specs.Numberings.{signal_variable}
-use Rattle.produce.specs.Learning.{AreInputsAt}
+use Rattle.produce.specs.Learning.{AreCompared}
 
 -- the first bits are the same
 abbrev pub AreSameTo : List ℕ → List ℕ → ℕ → Type 0
 AreSameTo outputs pads o = (k : ℕ) → k < o → get_or outputs k 0 ≡ get_or pads k 0
 
--- where all are the same, the first pads have the bits of the outputs
-pub all_same : (outputs pads : List ℕ) → length outputs ≤ length pads → AreSameTo outputs pads (length outputs)
-    → take (length outputs) pads ≡ outputs
-all_same outputs pads le same =
-    let long = length-take-le (length outputs) pads le in
-    ext_get_or 0 (take (length outputs) pads) outputs long (λ i lt.
-        let within : i < length outputs = omega (arith, lt, long) in
-        get_or-take (length outputs) pads i 0 within ∙ sym (same i within))
+-- the network has so many outputs, and the configuration so many pads
+outputs_count : (net : Network) (x y : List ℕ) → SpecOut net x y → length y ≡ length net.outputs
+outputs_count net x y h =
+    ap (λ (l : List ℕ). length l) h.2 ∙ length-map (output_signals net) (λ s. slice_index h.0 s) ∙ length-map net.outputs (λ (o : Output). o.signal)
 
--- where one is another, they haven't
-pub one_other : (outputs pads : List ℕ) (o : ℕ) → o < length outputs → get_or outputs o 0 ≢ get_or pads o 0
-    → take (length outputs) pads ≢ outputs
-one_other outputs pads o lt other same =
-    other (sym (ap (λ (l : List ℕ). get_or l o 0) same) ∙ get_or-take (length outputs) pads o 0 lt)
+pads_count : (config : ConfigValue) (x z : List ℕ) → FabOut config x z → length z ≡ config.geometry.output_pads
+pads_count config x z h =
+    ap (λ (l : List ℕ). length l) h.2
+    ∙ length-list_of config.geometry.output_pads (λ pad. tapped_bit (channel h.0 config.geometry.columns) (output_word config pad))
 
--- one bit more is the same
-pub same_more : (outputs pads : List ℕ) (o : ℕ) → AreSameTo outputs pads o → get_or outputs o 0 ≡ get_or pads o 0
-    → AreSameTo outputs pads (o + 1)
-same_more outputs pads o same here k lt = elim (cases_lt k o) [
-  | inl before ↦ same k before
-  | inr last ↦ let e : k ≡ o = omega arith in subst (λ n. get_or outputs n 0 ≡ get_or pads n 0) (sym e) here
-]
+-- there is a pad for each output
+pub pads_enough : (net : Network) (config : ConfigValue) (x y z : List ℕ) → FitsPads net config.geometry → SpecOut net x y
+    → FabOut config x z → length y ≤ length z
+pads_enough net config x y z fits of_network of_fabric =
+    let outputs = outputs_count net x y of_network in
+    let pads = pads_count config x z of_fabric in
+    let enough = fits.outputs in
+    omega arith
 
--- truth values that aren't the same have other bits
-pub bits_other : (a b : Bool) (m n : ℕ) → m ≡ (if a then 1 else 0) → n ≡ (if b then 1 else 0) → a ≢ b → m ≢ n
-bits_other true true m n of_a of_b other same = absurd (other refl)
-bits_other true false m n of_a of_b other same = absurd (omega arith)
-bits_other false true m n of_a of_b other same = absurd (omega arith)
-bits_other false false m n of_a of_b other same = absurd (other refl)
-
--- and those that are the same have the same bits
-pub bits_same : (a b : Bool) (m n : ℕ) → m ≡ (if a then 1 else 0) → n ≡ (if b then 1 else 0) → a ≡ b → m ≡ n
-bits_same a b m n of_a of_b same = of_a ∙ ap (λ c. if c then 1 else 0) same ∙ sym of_b
+-- what was compared are the outputs and the pads
+pub compared : (net : Network) (config : ConfigValue) (x y z : List ℕ) (other : Bool) → SpecOut net x y → FabOut config x z
+    → (IsTrue other ↔ (take (length y) z ≢ y)) → AreCompared net config x other
+compared net config x y z other of_network of_fabric is = record {
+  outputs = y;
+  pads = z;
+  of_network = of_network;
+  of_fabric = of_fabric;
+  other_is = subst (λ n. IsTrue other ↔ (take n z ≢ y)) (outputs_count net x y of_network) is;
+}
 
 -- the first bits are those of their variables among the true literals
 abbrev pub HaveValues : Lits → List ℕ → ℕ → Type 0

@@ -55,6 +55,11 @@ value_of_bit : (b : Bool) → ((if b then 1 else 0) == 1) ≡ b
 value_of_bit true = refl
 value_of_bit false = refl
 
+-- and its bit is 0 or 1
+pub bit_small : (b : Bool) → (if b then 1 else 0) ≤ 1
+bit_small true = omega arith
+bit_small false = omega arith
+
 -- with one bit more they still are
 pub values_more : (lits : Lits) (x y : List ℕ) (i : ℕ) (b : Bool) → i < length x → y ≡ set x i (if b then 1 else 0) → HaveValues lits x i
     → Has lits (record { variable = signal_variable i; positive = b }) → HaveValues lits y (i + 1)

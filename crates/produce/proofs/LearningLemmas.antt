@@ -1,5 +1,5 @@
 -- What clause learning finds ends the search, or leaves enough for the search that tries every input.
-use Rattle.std.proofs.Common.{◌≡◌, ◌≢◌, ℕ, ◌+◌, ◌<◌, ◌≤◌, inl, inr, Bool, true, false, List, length, take, get_or, Option, Some, None, refl, sym, ap, subst, ◌∙◌, arith}
+use Rattle.std.proofs.Common.{◌≡◌, ◌≢◌, ℕ, ◌+◌, ◌<◌, ◌≤◌, inl, inr, Bool, true, false, List, length, take, get_or, Option, Some, None, Result, Ok, Err, IfOk, refl, sym, ap, subst, ◌∙◌, arith}
 use Rattle.std.proofs.lemmas.Bool.{cases_lt}
 use Rattle.clause_defs.specs.Formulas.{Formula}
 use Rattle.log_defs.specs.Logs.{LogValue, Words, Extends}
@@ -7,7 +7,6 @@ use Rattle.net_defs.specs.Networks.{Network}
 use Rattle.fabric_defs.specs.Bits.{IsBits}
 use Rattle.fabric_defs.specs.Configurations.{ConfigValue, IsConfig}
 use Rattle.cell_laws.proofs.CellsExistence.{cells_exist}
-use Rattle.search_defs.specs.Ends.{IsRefuted as IsRefutedIn}
 use Rattle.tree_defs.specs.Budgets.{Enough}
 use Rattle.tree_defs.specs.Trees.{HasNoEmpty, DiffersAt, TreeEnds}
 use Rattle.tree_defs.specs.declared.tree_end.TreeEnd.{TreeEnd}
@@ -51,17 +50,20 @@ is_left net before after n v budget limit more budget_is n_is v_is none within r
 }
 
 -- what was found at an input, or what is left, where nothing was
-pub found_ends : (net : Network) (config : ConfigValue) (before after : LogValue) (x : List ℕ) (found : Option TreeEnd) → IsBits (length net.inputs) x
+found_ends : (net : Network) (config : ConfigValue) (before after : LogValue) (x : List ℕ) (found : Option TreeEnd) → IsBits (length net.inputs) x
     → IsInputFound net config x found → IsLeft net after → LearningEnds net config before found after
 found_ends net config before after x found bits (true, compared, is) left =
     subst (λ f. LearningEnds net config before f after) (sym is) (differs_where_other net config x bits compared)
 found_ends net config before after x found bits (false, compared, is) left =
     subst (λ f. LearningEnds net config before f after) (sym is) left
 
--- the empty clause that was learned is the last one
-pub learned_empty : (net : Network) (config : ConfigValue) (before after : LogValue) (index : ℕ) → IsRefutedIn after index
-    → LearningEnds net config before (Some (Empty index)) after
-learned_empty net config before after index found = record { empty = found.derived; last = λ none. found.last }
+-- so it is where memory may be wanting
+pub found_if : {E : Type 0} (r : Result (Option TreeEnd) E) (net : Network) (config : ConfigValue) (before after : LogValue) (x : List ℕ) (n : ℕ)
+    → n ≡ length net.inputs → IsBits n x → IfOk r (IsInputFound net config x) → IsLeft net after
+    → IfOk r (λ found. LearningEnds net config before found after)
+found_if (Ok found) net config before after x n same bits is left =
+    found_ends net config before after x found (subst (λ m. IsBits m x) same bits) is left
+found_if (Err e) net config before after x n same bits is left = is
 
 -- a budget that is spent after so many words, where it had enough left beside them, wasn't enough
 too_few : (enough words budget : ℕ) → (enough ≤ budget → words + enough ≤ budget) → budget < words + enough → budget < enough

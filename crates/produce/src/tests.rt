@@ -48,8 +48,7 @@ fn name_of(end: &ProduceEnd) -> &'static str {
 #[test]
 fn an_inverter_a_buffer_and_a_spent_budget(rt: HostRuntime) -> Result<(), Fail> {
     let alloc = rt.alloc();
-    let most = enough(1, 6) as u32;
-    assert_eq!(rt; most, 48);
+    assert!(rt; enough(1, 6) == 48);
     assert_eq!(rt; end_for(alloc, INVERTER, 48)?, "bundle");
     assert_eq!(rt; end_for(alloc, INVERTER, 4_194_304)?, "bundle");
     assert_eq!(rt; end_for(alloc, INVERTER, 1)?, "spent at once");

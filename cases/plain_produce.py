@@ -188,7 +188,7 @@ class Pair:
         expect(version == (1 if self.kind == 1 else 3) and tuple(geometry) == self.geometry, "version or geometry")
         plain_map.check(self.aligned, config, self.geometry, self.kind)
         used = check_trace(trace.decode(), self.formula, "verified")
-        expect(used <= min(budget, self.enough), "%d words" % used)
+        expect(used <= budget, "%d words" % used)
         status, said = self.call("verify", "s", "o", *self.geometry, random.choice([1, 4]))
         expect((status, said) == (0, "verified\n"), "verify printed %r" % said)
         return used
@@ -234,6 +234,10 @@ class Pair:
         if used:
             budgets |= {used, used - 1, used // 2}
         answers = [answer] + [self.judge(budget)[0] for budget in sorted(budgets - {0})]
+        for budget in (min(self.enough + random.randint(1, 4000), 4194304), 4194304):
+            more, _ = self.judge(budget)
+            expect(more == answer, "%s with more than enough" % more)
+            answers.append(more)
         at = random.randrange(5)
         if self.geometry[at] > 1:
             fewer = self.geometry[:at] + (self.geometry[at] - 1,) + self.geometry[at + 1:]

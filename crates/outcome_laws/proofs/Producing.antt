@@ -48,9 +48,9 @@ same_outputs wanted given net config is_net is_config aligned first second x y b
     subst (SpecOut net x) (sym known ∙ ap (λ n. take n pads) as_many ∙ shown) of_net
 
 -- where a bundle is produced, both have the same outputs
-produced_same : (g : GeometryValue) (spec design bytes : List ℕ) (wanted given net : Network) → Describe spec design wanted given
-    → AlignedTo wanted given net → IsProduced g spec design bytes → HaveSameOutputs wanted net
-produced_same g spec design bytes wanted given net d aligned h =
+produced_same : (g : GeometryValue) (budget : ℕ) (spec design bytes : List ℕ) (wanted given net : Network) → Describe spec design wanted given
+    → AlignedTo wanted given net → IsProduced g budget spec design bytes → HaveSameOutputs wanted net
+produced_same g budget spec design bytes wanted given net d aligned h =
     let p = h.produced in
     let w : h.wanted ≡ wanted = one_net spec h.wanted wanted h.describe.specified d.specified in
     let v : h.given ≡ given = one_net design h.given given h.describe.designed d.designed in
@@ -121,7 +121,7 @@ pub searched : (sn dn : List ℕ) (g : GeometryValue) (budget : ℕ) (spec desig
     → ProduceDue sn dn g budget spec design o → IsSearched wanted net g budget o
 searched sn dn g budget spec design wanted given net o d aligned none (inl (bytes, h, is)) = record {
   same = λ same. inl (status_of o _ is);
-  other = λ differ. absurd (differ (produced_same g spec design bytes wanted given net d aligned h));
+  other = λ differ. absurd (differ (produced_same g budget spec design bytes wanted given net d aligned h));
   enough = λ enough spent. let e : Done ≡ Spent = sym (status_of o _ is) ∙ spent in cc;
 }
 searched sn dn g budget spec design wanted given net o d aligned none (inr (inl (x, y, z, h, is))) = record {

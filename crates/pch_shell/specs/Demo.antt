@@ -16,8 +16,8 @@ use Rattle.pch_lines.specs.DemoLines.{demo_text}
 use Rattle.pch_shell.specs.Outcomes.{Outcome, done_with, bad_input}
 use Rattle.pch_shell.specs.Produce.{DesignIsFaulty, ToldOfEnd}
 
--- the bytes are a bundle with the second adder, placed on its least fabric, and are accepted for the first one, of
--- whose outputs these are the ones
+-- the bytes are a bundle with the second adder, placed on its least fabric, and a log within the budget, and are accepted
+-- for the first one, of whose outputs these are the ones
 pub record IsShown (bits : ℕ) (bytes ones : List ℕ) : Type 0 where
   pub wanted : Network
   pub given : Network

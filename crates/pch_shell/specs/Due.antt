@@ -45,15 +45,15 @@ FilesDue (demo bits out_name) files o = DemoDue bits o
 -- refutes the clauses, which nothing satisfies. `verify`: the bundle is accepted, and its configuration equals the
 -- network. `cnf`: both have a miter. `compact`: what is saved is the bundle with a compacted trace, and is accepted
 -- where the old one is. `place`: what is saved is a configuration that places the design, and equals its network.
--- `produce`: what is saved is a bundle with the placed design, and is accepted for the specification. `demo`: the same
--- of both adders.
+-- `produce`: what is saved is a bundle with the placed design and a log within the budget, and is accepted for the
+-- specification. `demo`: the same of both adders.
 abbrev pub Holds : Form → List (List ℕ) → (saved : List ℕ) → Type 0
 Holds (check cnf_name trace_name) files saved = OfTwo files Refuted
 Holds (verify spec_name bundle_name g workers) files saved = OfTwo files (IsAccepted g)
 Holds (cnf spec_name bundle_name) files saved = OfTwo files (λ spec bundle. (miter : Formula) × HasMiter spec bundle miter)
 Holds (compact bundle_name out_name) files saved = OfOne files (λ bundle. IsCompaction bundle saved)
 Holds (place design_name g out_name) files saved = OfOne files (λ design. IsPlacing g design saved)
-Holds (produce spec_name design_name g budget out_name) files saved = OfTwo files (λ spec design. IsProduced g spec design saved)
+Holds (produce spec_name design_name g budget out_name) files saved = OfTwo files (λ spec design. IsProduced g budget spec design saved)
 Holds (demo bits out_name) files saved = (ones : List ℕ) × IsShown bits saved ones
 
 -- What status 6 says of the bytes of the files, with this text: `produce` has found an input at which both differ, or
@@ -86,8 +86,8 @@ NeedMore (demo bits out_name) files text =
     (g : GeometryValue) × IsFabricFor bits g
     × (over : Demand) × NeedsMore g (ripple_text bits) (select_text bits) over × (text ≡ unroutable_line over)
 
--- What status 8 says, with this text, of the bytes that were saved: they are what `produce` or `demo` has spent its
--- budget on.
+-- What status 8 says, with this text, of the bytes that were saved: they are the printed trace of what `produce` or
+-- `demo` has spent its budget on.
 abbrev pub Spend : Form → List (List ℕ) → (saved text : List ℕ) → Type 0
 Spend (check cnf_name trace_name) files saved text = ⊥
 Spend (verify spec_name bundle_name g workers) files saved text = ⊥

@@ -1,5 +1,6 @@
 -- What `produce SPEC DESIGN C R T I O BUDGET OUT` finds in the bytes of both files, and what it comes to.
 use Rattle.std.specs.Prelude.{◌≡◌, ◌⊎◌, ℕ, List, length, Some, Err, codes}
+use Rattle.sat_text_defs.specs.Printed.{trace_text}
 use Rattle.sat_text_defs.specs.TraceText.{TraceText}
 use Rattle.net_defs.specs.Networks.{Network}
 use Rattle.net_defs.specs.Interfaces.{InterfaceOf}
@@ -27,12 +28,12 @@ pub record Describe (spec design : List ℕ) (wanted given : Network) : Type 0 w
   pub specified : HasNetwork spec wanted
   pub designed : HasNetwork design given
 
--- the bytes are a bundle with the placed design, and are accepted for the specification
-pub record IsProduced (g : GeometryValue) (spec design bytes : List ℕ) : Type 0 where
+-- the bytes are a bundle with the placed design and a log within the budget, and are accepted for the specification
+pub record IsProduced (g : GeometryValue) (budget : ℕ) (spec design bytes : List ℕ) : Type 0 where
   pub wanted : Network
   pub given : Network
   pub describe : Describe spec design wanted given
-  pub produced : Produced wanted given g bytes
+  pub produced : Produced wanted given g budget bytes
 
 -- where the inputs have the bits x, the specification has the outputs y, and the design, put into the
 -- specification's order, has other outputs, z
@@ -51,15 +52,20 @@ pub record NeedsMore (g : GeometryValue) (spec design : List ℕ) (over : Demand
   pub aligned : AlignedTo wanted given net
   pub first : FirstOver net g (Some over)
 
--- The budget was spent, and is less than what is enough. The bytes are the text of a trace that has the miter of the
--- specification and the placed design as its originals, and what was derived from them.
+-- the bytes are the text that is printed of the trace that the log is, which reads again
+pub record IsPrintedLog (log : LogValue) (bytes : List ℕ) : Type 0 where
+  pub text : bytes ≡ trace_text (log_trace log)
+  pub trace : TraceText bytes 1 (log_trace log)
+
+-- The budget was spent, and is less than what is enough. The bytes are the text of the trace of a log that has the miter
+-- of the specification and the placed design as its originals, and what was derived from them.
 pub record IsSpent (g : GeometryValue) (budget : ℕ) (spec design : List ℕ) (used need : ℕ) (bytes : List ℕ) : Type 0 where
   pub wanted : Network
   pub given : Network
   pub describe : Describe spec design wanted given
   pub log : LogValue
   pub ends : EndsBy wanted given g budget (Spent used need log)
-  pub trace : TraceText bytes 1 (log_trace log)
+  pub printed : IsPrintedLog log bytes
 
 -- this is the first name of the specification or the design that has no partner
 pub record HasLoneName (spec design : List ℕ) (error : InterfaceError) : Type 0 where
@@ -82,7 +88,7 @@ ToldOfEnd wanted given (Unroutable resource place need have) o =
 ToldOfEnd wanted given (Differs x) o =
     (y : List ℕ) × (z : List ℕ) × DifferWith wanted given x y z × (o ≡ differs (differs_line x y z))
 ToldOfEnd wanted given (Spent used need log) o =
-    (bytes : List ℕ) × TraceText bytes 1 (log_trace log) × (o ≡ spent_with bytes (spent_line used need))
+    (bytes : List ℕ) × IsPrintedLog log bytes × (o ≡ spent_with bytes (spent_line used need))
 ToldOfEnd wanted given NoMemory o = ⊥
 
 -- what the telling of a reason rests on: that both differ at an input, and that a log has a text that can be read
@@ -96,7 +102,7 @@ CanBeTold wanted given NoMemory = Unit {0}
 -- what `produce` of the bytes of both files comes to
 abbrev pub ProduceDue : (spec_name design_name : List ℕ) → GeometryValue → (budget : ℕ) → (spec design : List ℕ) → Outcome → Type 0
 ProduceDue spec_name design_name g budget spec design o =
-    ((bytes : List ℕ) × IsProduced g spec design bytes × (o ≡ done_with bytes (written_line (length bytes))))
+    ((bytes : List ℕ) × IsProduced g budget spec design bytes × (o ≡ done_with bytes (written_line (length bytes))))
     ⊎ (((x : List ℕ) × (y : List ℕ) × (z : List ℕ) × IsDifference spec design x y z × (o ≡ differs (differs_line x y z)))
     ⊎ (((over : Demand) × NeedsMore g spec design over × (o ≡ unroutable (unroutable_line over)))
     ⊎ (((used : ℕ) × (need : ℕ) × (bytes : List ℕ) × IsSpent g budget spec design used need bytes

@@ -76,6 +76,7 @@ spent_all spec config budget before after used need over nothing same more is_lo
       over_miter = grown_miter spec config before after more over;
       is_log = is_log;
       short = short;
+      budget_is = kept;
       used_is = spent.used_is;
       need_low = spent.need_low;
       need_high = spent.need_high;

@@ -6,3 +6,5 @@ pub mod StepsLemmas
 pub mod ProducedLemmas
 pub mod DifferenceLemmas
 pub mod PartsLemmas
+pub mod LearningLemmas
+pub mod ComparingLemmas

@@ -1,5 +1,5 @@
 -- The bundle of a refutation is accepted.
-use Rattle.std.proofs.Common.{◌≡◌, ℕ, List, sym, ap, subst}
+use Rattle.std.proofs.Common.{◌≡◌, ℕ, List, sym, ap, subst, arith}
 use Rattle.clause_defs.specs.Formulas.{Formula}
 use Rattle.clause_defs.specs.Verdicts.{VerdictOf}
 use Rattle.clause_defs.specs.declared.verdict.TheConstants.{MAX_COMPUTED}
@@ -14,7 +14,7 @@ use Rattle.miter_defs.specs.Equality.{FitsPads}
 use Rattle.verify_defs.specs.Acceptance.{HasParts, ShowsOfMiter}
 use Rattle.miter_size.specs.Sizes.{log_trace}
 use Rattle.produce.specs.Endings.{Refuted, IsRefutation}
-use Rattle.produce.specs.Bundling.{Produced}
+use Rattle.produce.specs.Bundling.{Produced, bundle_of_log}
 use Rattle.produce.proofs.EndLemmas.{spec_fits}
 
 -- the trace of the log refutes the miter
@@ -31,10 +31,13 @@ shows spec config budget log is_config refuted =
 
 -- so its bundle is accepted for the specification
 pub produced_of : (spec design : Network) (g : GeometryValue) (budget : ℕ) (config : ConfigValue) (log : LogValue) (bytes : List ℕ)
-    → IsRefutation spec design g budget config log → IsConfig config → HasParts config.geometry bytes config (log_trace log)
-    → Produced spec design g bytes
-produced_of spec design g budget config log bytes refutation is_config parts =
+    → IsRefutation spec design g budget config log → IsConfig config → bytes ≡ bundle_of_log config log
+    → HasParts config.geometry bytes config (log_trace log) → Produced spec design g budget bytes
+produced_of spec design g budget config log bytes refutation is_config exact parts =
     let placed = refutation.placed in
+    let refuted = refutation.refuted in
+    let budget_is = refuted.budget_is in
+    let words = refuted.is_log.within_budget in
     let of = placed.2 in
     let P : GeometryValue → Type 0 = λ h. HasParts h bytes config (log_trace log) in
     record {
@@ -43,6 +46,10 @@ produced_of spec design g budget config log bytes refutation is_config parts =
       config = config;
       placed = placed;
       equal = refutation.equal;
+      log = log;
+      refuted = refuted;
+      within = omega arith;
+      exact = exact;
       accepted = record {
         fits = subst (FitsPads spec) of.0 (spec_fits spec design refutation.net config refutation.aligned refutation.equal);
         steps = log_trace log;

@@ -56,6 +56,7 @@ pub record SpentAt (spec : Network) (config : ConfigValue) (budget used need : �
   pub over_miter : IsOverMiter spec config log
   pub is_log : IsLog log
   pub short : HasShortTrace log
+  pub budget_is : log.budget ≡ budget
   pub used_is : used ≡ Words log.derived
   pub need_low : 4 ≤ need
   pub need_high : need ≤ 2 * log.originals.variables + 4

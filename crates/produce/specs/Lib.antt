@@ -1,3 +1,4 @@
 pub mod Endings
+pub mod Learning
 pub mod Differences
 pub mod Bundling

@@ -6,7 +6,7 @@ ghost use Rattle.sat_text_defs.specs.TraceText.{TraceText};
 ghost use Rattle.bundle_defs.specs.Bundles.{IsVersion, kind_of_version};
 ghost use Rattle.miter_size.specs.Sizes.{log_trace, HasShortTrace};
 ghost use Rattle.verify_defs.specs.Acceptance.{HasParts};
-ghost use Rattle.produce.specs.Bundling.{version_of};
+ghost use Rattle.produce.specs.Bundling.{version_of, bundle_of_log};
 
 use bundle::print_bundle;
 use fabric::Config;
@@ -29,7 +29,8 @@ pub fn printed_log(alloc: Global, log: Log) -> Result<Vec<u8>, NoMemory>
 /// The bytes of the bundle of a configuration and of the trace that the log is.
 pub(crate) fn bundled(alloc: Global, config: &Config, log: Log) -> Result<Vec<u8>, NoMemory>
     requires short { HasShortTrace log }
-    ensures { IfOk result
+    ensures exact { IfOk result (λ bytes. bytes.items ≡ bundle_of_log config.now log) }
+    ensures parts { IfOk result
         (λ bytes. HasParts config.now.geometry bytes.items config.now (log_trace log)) }
 {
     let geometry = config.geometry();

@@ -24,7 +24,7 @@ pub fn produce(
 ) -> Result<Vec<u8>, ProduceEnd>
     requires some { 1 ≤ budget }
     requires budget { budget ≤ MAX_BUDGET }
-    ensures produced { IfOk result (λ bytes. Produced spec.now design.now g bytes.items) }
+    ensures produced { IfOk result (λ bytes. Produced spec.now design.now g budget bytes.items) }
     ensures ends { IfErr result (EndsBy spec.now design.now g budget) }
 {
     let Refutation { config, log } = refute(alloc, spec, design, g, budget)?;

@@ -1,9 +1,12 @@
 //! The log that refutes the miter of the specification and the placed design.
 
 ghost use Rattle.std.specs.Prelude.{◌≡◌, ◌≤◌, [], IfOk, IfErr};
+ghost use Rattle.log_defs.specs.Logs.{Extends};
 ghost use Rattle.miter_defs.specs.Equality.{FitsPads};
+ghost use Rattle.tree_defs.specs.Trees.{TreeEnds};
 ghost use Rattle.produce.specs.Endings.{Refuted, Unrefuted, IsOverMiter, answer_of};
 
+use crate::learning::learned;
 use crate::produce_end::ProduceEnd;
 use extract::extract;
 use fabric::Config;
@@ -29,6 +32,28 @@ fn open_log(alloc: Global, spec: &Net, config: &Config, budget: u32) -> Result<L
     let cells = extract(alloc, config)?;
     let miter = miter(alloc, spec, &cells)?;
     Log::open(alloc, miter, budget)
+}
+
+/// Searches a refutation of the miter that the log's originals are: by clause learning, and where that
+/// finds nothing, by trying every input, in the same log with its whole budget.
+fn search(
+    alloc: Global,
+    spec: &Net,
+    config: &Config,
+    budget: u32,
+    log: &mut Log,
+) -> Result<TreeEnd, NoMemory>
+    requires fits { FitsPads spec.now config.now.geometry }
+    requires miter { IsOverMiter spec.now config.now log.old }
+    requires nothing { log.old.derived ≡ [] }
+    requires budget { log.old.budget ≡ budget }
+    ensures extends { Extends log.old log.new }
+    ensures ends { IfOk result (λ end. TreeEnds spec.now config.now log.old end log.new) }
+{
+    match learned(alloc, spec, config, budget, log)? {
+        Some(end) => Ok(end),
+        None => tree(alloc, spec, config, log),
+    }
 }
 
 /// An end of the search as an answer.
@@ -60,7 +85,7 @@ pub(crate) fn refuted_miter(
     let Ok(mut log) = open_log(alloc, spec, config, budget) else {
         return Err(ProduceEnd::NoMemory);
     };
-    let Ok(end) = tree(alloc, spec, config, &mut log) else {
+    let Ok(end) = search(alloc, spec, config, budget, &mut log) else {
         return Err(ProduceEnd::NoMemory);
     };
     let _used = log.used();

@@ -1,5 +1,8 @@
-use crate::{ProduceEnd, Refutation, enough, produce, refute};
+ghost use Rattle.std.specs.Prelude.{◌≤◌};
+
+use crate::{ProduceEnd, enough, produce};
 use fabric::Geometry;
+use miter_size::MAX_BUDGET;
 use netlist::{Net, read_specification};
 use std::alloc::Global;
 use std::test::Fail;
@@ -12,61 +15,43 @@ fn net_of(alloc: Global, text: &[u8]) -> Result<Net, Fail> {
     Ok(read_specification(alloc, text).ok().ok_or("no net")?)
 }
 
-/// Whether an input was found at which the two differ.
-fn names_an_input(end: &Result<Refutation, ProduceEnd>) -> bool {
+/// Which end producing the design for an inverter comes to, with so many words.
+fn end_for(alloc: Global, design: &[u8], budget: u32) -> Result<&'static str, Fail>
+    requires some { 1 ≤ budget }
+    requires few { budget ≤ MAX_BUDGET }
+{
+    let spec = net_of(alloc, INVERTER)?;
+    let net = net_of(alloc, design)?;
+    let g = Geometry::new(1, 1, 2, 1, 1).ok_or("no fabric")?;
+    Ok(match produce(alloc, &spec, &net, g, budget) {
+        Ok(bytes) => kind_of(&bytes),
+        Err(end) => name_of(&end),
+    })
+}
+
+fn kind_of(bytes: &[u8]) -> &'static str {
+    if bytes.starts_with(b"PCHB") {
+        "bundle"
+    } else {
+        "other bytes"
+    }
+}
+
+fn name_of(end: &ProduceEnd) -> &'static str {
     match end {
-        Err(ProduceEnd::Differs { x }) => x.len() == 1,
-        _ => false,
+        ProduceEnd::Differs { .. } => "differs",
+        ProduceEnd::Spent { used: 0, .. } => "spent at once",
+        _ => "another end",
     }
 }
 
 #[test]
-fn the_inverter_is_refuted(rt: HostRuntime) -> Result<(), Fail> {
+fn an_inverter_a_buffer_and_a_spent_budget(rt: HostRuntime) -> Result<(), Fail> {
     let alloc = rt.alloc();
-    let spec = net_of(alloc, INVERTER)?;
-    let g = Geometry::new(1, 1, 2, 1, 1).ok_or("no fabric")?;
-    let Ok(refutation) = refute(alloc, &spec, &spec, g, 48) else {
-        return Err("no refutation".into());
-    };
-    assert!(rt; refutation.log.used() <= 48);
-    assert_eq!(rt; refutation.log.originals().len(), 26);
-    Ok(())
-}
-
-#[test]
-fn the_inverter_is_produced(rt: HostRuntime) -> Result<(), Fail> {
-    let alloc = rt.alloc();
-    let spec = net_of(alloc, INVERTER)?;
-    let g = Geometry::new(1, 1, 2, 1, 1).ok_or("no fabric")?;
-    let Ok(bytes) = produce(alloc, &spec, &spec, g, 48) else {
-        return Err("no bundle".into());
-    };
-    assert!(rt; bytes.len() > 200);
-    Ok(())
-}
-
-#[test]
-fn one_word_is_spent_at_once(rt: HostRuntime) -> Result<(), Fail> {
-    let alloc = rt.alloc();
-    let spec = net_of(alloc, INVERTER)?;
-    let g = Geometry::new(1, 1, 2, 1, 1).ok_or("no fabric")?;
-    let Err(ProduceEnd::Spent { used, need, log }) = refute(alloc, &spec, &spec, g, 1) else {
-        return Err("not spent".into());
-    };
-    assert_eq!(rt; used, 0);
-    assert!(rt; need >= 4);
-    assert_eq!(rt; log.originals().len(), 26);
-    Ok(())
-}
-
-#[test]
-fn a_buffer_is_no_inverter(rt: HostRuntime) -> Result<(), Fail> {
-    let alloc = rt.alloc();
-    let spec = net_of(alloc, INVERTER)?;
-    let design = net_of(alloc, BUFFER)?;
-    let g = Geometry::new(1, 1, 2, 1, 1).ok_or("no fabric")?;
-    let end = refute(alloc, &spec, &design, g, 48);
-    assert!(rt; names_an_input(&end));
     assert!(rt; enough(1, 6) == 48);
+    assert_eq!(rt; end_for(alloc, INVERTER, 48)?, "bundle");
+    assert_eq!(rt; end_for(alloc, INVERTER, 4_194_304)?, "bundle");
+    assert_eq!(rt; end_for(alloc, INVERTER, 1)?, "spent at once");
+    assert_eq!(rt; end_for(alloc, BUFFER, 48)?, "differs");
     Ok(())
 }

@@ -10,14 +10,14 @@ returns-clause-refuted c =
     let spec = c.args.spec.now in
     let config = c.args.config.now in
     let before = c.in-Ok.log in
-    let after = c.tree.new.log in
+    let after = c.search.new.log in
     let opened = c.in-Ok.ensures in
-    let searched = c.in-Ok-tree.ensures in
+    let searched = c.in-Ok-search.ensures in
     let at = opened.budget in
     let short = short_grown spec config before after c.inputs-inputs.ensures.net c.geometry-geometry.ensures.known opened.over_miter searched.extends
     c.used-used.ensures.log (omega (arith, c.requires.budget)) in
     subst (λ r. IfOk r (Refuted spec config c.args.budget)) (sym c.answer_of.ensures)
-    (answered_ok spec config c.args.budget before after c.in-Ok-tree.end opened.over_miter opened.nothing opened.budget searched.extends
+    (answered_ok spec config c.args.budget before after c.in-Ok-search.end opened.over_miter opened.nothing opened.budget searched.extends
     c.used-used.ensures.log short searched.ends)
 
 -- and where the search found none, it says why
@@ -26,12 +26,12 @@ returns-clause-unrefuted c =
     let spec = c.args.spec.now in
     let config = c.args.config.now in
     let before = c.in-Ok.log in
-    let after = c.tree.new.log in
+    let after = c.search.new.log in
     let opened = c.in-Ok.ensures in
-    let searched = c.in-Ok-tree.ensures in
+    let searched = c.in-Ok-search.ensures in
     let at = opened.budget in
     let short = short_grown spec config before after c.inputs-inputs.ensures.net c.geometry-geometry.ensures.known opened.over_miter searched.extends
     c.used-used.ensures.log (omega (arith, c.requires.budget)) in
     subst (λ r. IfErr r (Unrefuted spec config c.args.budget)) (sym c.answer_of.ensures)
-    (answered_err spec config c.args.budget before after c.in-Ok-tree.end opened.over_miter opened.nothing opened.budget searched.extends
+    (answered_err spec config c.args.budget before after c.in-Ok-search.end opened.over_miter opened.nothing opened.budget searched.extends
     c.used-used.ensures.log short searched.ends)

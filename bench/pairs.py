@@ -228,14 +228,16 @@ def made():
     """All pairs: a name, a specification and a design."""
     yield from adders()
     yield from comparators()
-    for selects, spec, design in [(2, "low", "flat"), (3, "low", "flat"), (4, "low", "flat"), (5, "low", "flat"), (4, "low", "high"), (5, "flat", "high")]:
+    for selects, spec, design in [(2, "low", "flat"), (3, "low", "flat"), (4, "low", "flat"), (5, "low", "flat"),
+                                  (4, "low", "high"), (5, "flat", "high")]:
         yield "multiplexer-%d-%s-%s" % (2 ** selects, spec, design), multiplexer(selects, spec), multiplexer(selects, design)
     for bits in (3, 4, 5, 6):
         yield "decoder-%d" % bits, decoder(bits, True), decoder(bits, False)
     for bits in (16, 40):
         for spec, design in [("chain", "tree"), ("chain", "wide"), ("tree", "wide")]:
             yield "parity-%d-%s-%s" % (bits, spec, design), parity(bits, spec), parity(bits, design)
-    for bits, spec, design in [(4, "rows", "columns"), (4, "rows", "saved"), (4, "saved", "columns"), (5, "rows", "columns"), (5, "rows", "saved")]:
+    for bits, spec, design in [(4, "rows", "columns"), (4, "rows", "saved"), (4, "saved", "columns"),
+                               (5, "rows", "columns"), (5, "rows", "saved")]:
         yield "multiplier-%d-%s-%s" % (bits, spec, design), multiplier(bits, spec), multiplier(bits, design)
     yield from restructured.pairs()
 

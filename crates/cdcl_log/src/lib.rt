@@ -10,8 +10,12 @@
 
 mod descent;
 mod restarts;
+mod searching;
 mod solver;
 mod steps;
+#[cfg(test)]
+mod tests;
 
 pub use search_defs::CdclEnd;
+pub use searching::Search;
 pub use solver::Solver;

@@ -8,7 +8,7 @@ use Rattle.search_defs.proofs.ReasonLemmas.{clause_within}
 use Rattle.search_defs.proofs.LessonLemmas.{lesson_is_new}
 use Rattle.cdcl_log.specs.Steps.{IsPut}
 use Rattle.cdcl_log.proofs.StepLemmas.{reasoned_with, conflict_known, present_known, taught_with, goes_on}
-use Rattle.cdcl_log.proofs.solver.Solver.learn_from.Goals as goal
+use Rattle.cdcl_log.proofs.searching.Search.learn_from.Goals as goal
 
 -- the clause in conflict is one of the log
 pub conclude-requires-clause-index : goal.conclude-requires-clause-index

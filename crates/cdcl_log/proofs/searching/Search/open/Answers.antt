@@ -2,7 +2,7 @@ use Rattle.std.proofs.Common.{◌≡◌, ◌+◌, ◌/◌, length, ap, ◌∙◌
 use Rattle.clause_defs.specs.Formulas.{Formula}
 use Rattle.trail_defs.specs.Trails.{IsOpened}
 use Rattle.search_defs.proofs.OpenLemmas.{solving_opened}
-use Rattle.cdcl_log.proofs.solver.Solver.open.Goals as goal
+use Rattle.cdcl_log.proofs.searching.Search.open.Goals as goal
 
 -- the search begins with the clauses of the formula
 pub returns-clause-solving : goal.returns-clause-solving

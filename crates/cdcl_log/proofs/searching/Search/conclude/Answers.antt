@@ -3,7 +3,7 @@ use Rattle.clause_defs.specs.Clauses.{Lits}
 use Rattle.log_defs.specs.Deriving.{IsNew}
 use Rattle.search_defs.specs.Solving.{Solving, IsSolving}
 use Rattle.cdcl_log.proofs.StepLemmas.{reasoned_with}
-use Rattle.cdcl_log.proofs.solver.Solver.conclude.Goals as goal
+use Rattle.cdcl_log.proofs.searching.Search.conclude.Goals as goal
 
 -- the trail's reasons are clauses of the log
 pub refute-requires-clause-reasoned : goal.refute-requires-clause-reasoned

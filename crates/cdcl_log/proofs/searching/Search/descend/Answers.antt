@@ -2,7 +2,7 @@ use Rattle.std.proofs.Common.{sym, subst}
 use Rattle.settled_levels.specs.Levels.{IsSettledBelow}
 use Rattle.search_defs.specs.Solving.{Solving, IsSolving}
 use Rattle.search_defs.proofs.LearnLemmas.{solving_moved}
-use Rattle.cdcl_log.proofs.solver.Solver.descend.Goals as goal
+use Rattle.cdcl_log.proofs.searching.Search.descend.Goals as goal
 
 pub descend-requires-clause-settled : goal.descend-requires-clause-settled
 descend-requires-clause-settled c = subst (λ (s : Solving). IsSettledBelow s.trail) (sym c.self.view_is) c.requires.settled

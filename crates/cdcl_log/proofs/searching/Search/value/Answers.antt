@@ -2,7 +2,7 @@ use Rattle.std.proofs.Common.{true, subst}
 use Rattle.trail_defs.specs.Assignments.{IsFree}
 use Rattle.search_defs.specs.Solving.{Solving}
 use Rattle.search_defs.proofs.PointLemmas.{none_free}
-use Rattle.cdcl_log.proofs.solver.Solver.value.Goals as goal
+use Rattle.cdcl_log.proofs.searching.Search.value.Goals as goal
 
 -- each variable has a value
 pub returns-in-None : goal.returns-in-None

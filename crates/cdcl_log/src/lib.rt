@@ -9,6 +9,7 @@
 #![tactic(auto)]
 
 mod descent;
+mod forgetting;
 mod restarts;
 mod searching;
 mod solver;
@@ -16,6 +17,6 @@ mod steps;
 #[cfg(test)]
 mod tests;
 
-pub use search_defs::CdclEnd;
+pub use search_defs::{CdclEnd, Standing};
 pub use searching::Search;
 pub use solver::Solver;

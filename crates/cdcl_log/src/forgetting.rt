@@ -19,7 +19,7 @@ use search_defs::Standing;
 pub const LEAST_WORDS: u32 = 4;
 
 // A clause with no more literals is never forgotten: it soon implies something.
-const SHORT: usize = 8;
+const SHORT: usize = 3;
 
 /// Forgets the long learned clauses of the older half that are no reason. The search may derive `limit`
 /// words.

@@ -56,8 +56,12 @@ module _ (log : LogValue) (s : Solving) (solving : IsSolving log s) (known : IsT
     ]
   ]
 
-  pub solving_put_back : IsSolving log (record { limit = s.limit; trail = now; indices = set s.indices (suc j) index;
-      standings = set s.standings (derived_place log index) Back })
+  pub solving_put_back : IsSolving log (record {
+    limit = s.limit;
+    trail = now;
+    indices = set s.indices (suc j) index;
+    standings = set s.standings (derived_place log index) Back;
+  })
   solving_put_back = record {
     limited = solving.limited;
     spent = solving.spent;

@@ -63,8 +63,12 @@ module _ (log : LogValue) (s : Solving) (solving : IsSolving log s) (known : IsT
     ]
   ]
 
-  pub solving_forgot : IsSolving log (record { limit = s.limit; trail = now; indices = s.indices;
-      standings = set s.standings (derived_place log (get_or s.indices (suc j) 0)) Forgotten })
+  pub solving_forgot : IsSolving log (record {
+    limit = s.limit;
+    trail = now;
+    indices = s.indices;
+    standings = set s.standings (derived_place log (get_or s.indices (suc j) 0)) Forgotten;
+  })
   solving_forgot = record {
     limited = solving.limited;
     spent = solving.spent;

@@ -18,7 +18,7 @@ owed_learned (x ∷ ds) (s ∷ ss) d e = ap (λ n. owed (length x.lits) s + n) (
 -- one clause stands otherwise
 pub owed_set : (ds : List Derived) (ss : List Standing) (k : ℕ) (s : Standing) → k < length ds → k < length ss
     → owed_words ds (set ss k s) + owed (length (derived_at ds k).lits) (get_or ss k Back)
-      ≡ owed_words ds ss + owed (length (derived_at ds k).lits) s
+    ≡ owed_words ds ss + owed (length (derived_at ds k).lits) s
 owed_set [] ss k s lt le = absurd (omega arith)
 owed_set (x ∷ ds) [] k s lt le = absurd (omega arith)
 owed_set (x ∷ ds) (t ∷ ss) zero s lt le =
@@ -32,7 +32,7 @@ owed_set (x ∷ ds) (t ∷ ss) (suc k) s lt le =
 -- the one at place k, which stood so, is forgotten
 module _ (ds : List Derived) (ss : List Standing) (k : ℕ) (inside : k < length ds) (within : k < length ss) where
   pub owed_forgotten : (c : Lits) → (derived_at ds k).lits ≡ c → get_or ss k Back ≡ Learned → owed_words ds (set ss k Forgotten) ≡ owed_words ds ss + length c
-  pub owed_forgotten c is stood =
+  owed_forgotten c is stood =
       let all = owed_set ds ss k Forgotten inside within in
       let none : owed (length (derived_at ds k).lits) (get_or ss k Back) ≡ 0 = ap (owed (length (derived_at ds k).lits)) stood in
       let long : length (derived_at ds k).lits ≡ length c = ap (λ (ls : Lits). length ls) is in
@@ -40,7 +40,7 @@ module _ (ds : List Derived) (ss : List Standing) (k : ℕ) (inside : k < length
 
   -- or comes back
   pub owed_back : (c : Lits) → (derived_at ds k).lits ≡ c → get_or ss k Back ≡ Forgotten → owed_words ds (set ss k Back) + length c ≡ owed_words ds ss
-  pub owed_back c is stood =
+  owed_back c is stood =
       let all = owed_set ds ss k Back inside within in
       let some : owed (length (derived_at ds k).lits) (get_or ss k Back) ≡ length (derived_at ds k).lits = ap (owed (length (derived_at ds k).lits)) stood in
       let long : length (derived_at ds k).lits ≡ length c = ap (λ (ls : Lits). length ls) is in

@@ -67,8 +67,8 @@ module _ (s : Solving) (c : Lits) (b j : ℕ) (now : Assigned) (learned : HasLea
     pub live_other : (i : ℕ) → IsLive s.trail s.indices i → IsLive now (set s.indices (suc j) index) i
     live_other i live =
         let ne : live.0 ≢ suc j = λ e. (
-          let none : clause_at s.trail.clauses live.0 ≡ None = ap (λ m. clause_at s.trail.clauses m) e ∙ was_fresh in
-          let some = live.2 in absurd (cc)
+        let none : clause_at s.trail.clauses live.0 ≡ None = ap (λ m. clause_at s.trail.clauses m) e ∙ was_fresh in
+        let some = live.2 in absurd (cc)
         ) in
         (live.0, live.1, at_other live.0 ne ∙ live.2, index_other live.0 ne ∙ live.3)
 

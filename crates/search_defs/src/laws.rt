@@ -39,8 +39,12 @@ pub fn a_search_learns()
         → IsSolving log s → IsTrail s.trail → IsTaught s.trail d.lits u b
         → index ≡ length log.originals.clauses + length log.derived + 1
         → Words (log.derived ++ d ∷ []) ≤ s.limit → HasLearned b d.lits s.trail j now
-        → IsSolving (with_derived log d) (record { limit = s.limit; trail = now;
-            indices = set s.indices (suc j) index; standings = s.standings ++ Learned ∷ [] }) }
+        → IsSolving (with_derived log d) (record {
+          limit = s.limit;
+          trail = now;
+          indices = set s.indices (suc j) index;
+          standings = s.standings ++ Learned ∷ [];
+        }) }
 {}
 
 /// Once it is put back, where it was forgotten, the search keeps what it kept.
@@ -48,8 +52,12 @@ pub fn a_clause_comes_back()
     ensures { (log : LogValue) (s : Solving) (c : Lits) (u : Literal) (b index j : ℕ) (now : Assigned)
         → IsSolving log s → IsTrail s.trail → IsTaught s.trail c u b → StandsAs log s.standings index Forgotten
         → clause_of_log log index ≡ c → HasLearned b c s.trail j now
-        → IsSolving log (record { limit = s.limit; trail = now; indices = set s.indices (suc j) index;
-            standings = set s.standings (derived_place log index) Back }) }
+        → IsSolving log (record {
+          limit = s.limit;
+          trail = now;
+          indices = set s.indices (suc j) index;
+          standings = set s.standings (derived_place log index) Back;
+        }) }
 {}
 
 /// A learned clause that the trail takes away is forgotten, and the search keeps what it kept.
@@ -57,8 +65,12 @@ pub fn a_search_forgets()
     ensures { (log : LogValue) (s : Solving) (c : Lits) (j : ℕ) (now : Assigned) → IsSolving log s
         → IsTrail s.trail → clause_at s.trail.clauses (suc j) ≡ Some c → StandsAs log s.standings (get_or s.indices (suc j) 0) Learned
         → now.clauses ≡ set s.trail.clauses j None → HasSameValues s.trail now
-        → IsSolving log (record { limit = s.limit; trail = now; indices = s.indices;
-            standings = set s.standings (derived_place log (get_or s.indices (suc j) 0)) Forgotten }) }
+        → IsSolving log (record {
+          limit = s.limit;
+          trail = now;
+          indices = s.indices;
+          standings = set s.standings (derived_place log (get_or s.indices (suc j) 0)) Forgotten;
+        }) }
 {}
 
 /// Where each variable has a value, and each live clause a true literal, it has found a point: no clause

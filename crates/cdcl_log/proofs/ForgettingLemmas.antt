@@ -9,7 +9,6 @@ use Rattle.search_defs.specs.declared.standing.Standing.TheVariants.{Learned, Fo
 use Rattle.search_defs.specs.Solving.{Solving, StandsAs, derived_place, IsSolving}
 use Rattle.search_defs.proofs.ForgetLemmas.{solving_forgot}
 use Rattle.search_defs.proofs.ReasonLemmas.{number_within}
-use Rattle.cdcl_log.proofs.StepLemmas.{index_read}
 
 -- what isn't None is some clause
 some_clause : (o : Option Lits) → o ≢ None → (c : Lits) × (o ≡ Some c)
@@ -25,18 +24,17 @@ number_listed log s solving number live =
 
 -- the trail took a learned clause away
 pub forgot_number : (log : LogValue) (s : Solving) → IsSolving log s → IsTrail s.trail → (number index : ℕ) → clause_at s.trail.clauses number ≢ None
-    → index ≡ get_or s.indices number index → StandsAs log s.standings index Learned
+    → index ≡ get_or s.indices number 0 → StandsAs log s.standings index Learned
     → (now : Assigned) → now.clauses ≡ set s.trail.clauses (number - 1) None → HasSameValues s.trail now
     → IsSolving log (record { limit = s.limit; trail = now; indices = s.indices; standings = set s.standings (derived_place log index) Forgotten })
 forgot_number log s solving known zero index live read stands now clauses values = absurd (live refl)
 forgot_number log s solving known (suc j) index live read stands now clauses values =
     let some = some_clause (clause_at s.trail.clauses (suc j)) live in
-    let is = index_read log s solving (suc j) index some.0 some.1 read in
     let place : suc j - 1 ≡ j = omega arith in
     subst
     (λ i. IsSolving log (record { limit = s.limit; trail = now; indices = s.indices; standings = set s.standings (derived_place log i) Forgotten }))
-    (sym is)
-    (solving_forgot log s solving known some.0 j now some.1 (subst (λ i. StandsAs log s.standings i Learned) is stands)
+    (sym read)
+    (solving_forgot log s solving known some.0 j now some.1 (subst (λ i. StandsAs log s.standings i Learned) read stands)
     (clauses ∙ ap (λ i. set s.trail.clauses i None) place) values)
 
 -- a clause that implied none of its own literals is no reason

@@ -4,7 +4,7 @@
 //! Which ones are forgotten is a guess: long ones of the older half. A clause that is the reason of a
 //! literal stays, as does one that was put back, since a conflict gave it again.
 
-ghost use Rattle.std.specs.Prelude.{◌≡◌, ◌≢◌, ℕ, ◌+◌, ◌<◌, ◌≤◌, get_or, Some, None, IsTrue, IsFalse, IfSome};
+ghost use Rattle.std.specs.Prelude.{◌≡◌, ◌≢◌, ℕ, ◌+◌, ◌<◌, ◌≤◌, get_or, Some, None, IsTrue, IsFalse, IfSome, vec_capacity};
 ghost use Rattle.clause_defs.specs.Literals.{Literal};
 ghost use Rattle.clause_defs.specs.Clauses.{Has};
 ghost use Rattle.trail_defs.specs.Trails.{clause_at, reason_of, IsTrail, IsNoReason};
@@ -43,6 +43,8 @@ pub fn forget_all(
       standings = standings.new.items;
     }) }
     ensures never_back { never_back_of standings.new.items ≡ never_back_of standings.old.items }
+    ensures variables { trail.new.variables ≡ trail.old.variables }
+    ensures room { vec_capacity standings.new ≡ vec_capacity standings.old }
 {
     let originals = log.originals().len();
     let last = originals + limit / LEAST_WORDS;
@@ -68,6 +70,7 @@ fn is_reason(trail: &Trail, number: u32) -> bool
     requires { clause_at trail.now.clauses number ≢ None }
     ensures { IsFalse result → IsNoReason trail.now number }
 {
+    let _ = trail.present();
     for l in trail.lits(number) {
         if has_implied(trail, number, l.variable()) {
             return true;
@@ -116,8 +119,10 @@ fn forget(
       standings = standings.new.items;
     }) }
     ensures never_back { never_back_of standings.new.items ≡ never_back_of standings.old.items }
+    ensures variables { trail.new.variables ≡ trail.old.variables }
+    ensures room { vec_capacity standings.new ≡ vec_capacity standings.old }
 {
-    let _present = trail.present();
+    let _ = trail.present();
     if let Some(place) = learned_place(log, indices[number as usize], standings) {
         if place < standings.len() / 2 {
             trail.forget(number);

@@ -196,6 +196,7 @@ impl Search {
         ensures same_limit { self.new.limit ≡ self.old.limit }
         ensures fewer { never_back_of self.new.standings < never_back_of self.old.standings }
     {
+        let _ = self.trail.present();
         let place = index - log.originals().len() - 1;
         back_to(&mut self.trail, &mut self.order, level);
         put(&mut self.trail, &mut self.indices, log.clause(index), index);

@@ -233,9 +233,16 @@ fn forgotten_clauses_come_back(rt: HostRuntime) -> Result<(), Fail> {
             Standing::Learned => {}
         }
     }
-    println!(rt; "conflicts {conflicts} forgotten {forgotten} back {back} words {} {:?}", log.used(), end)?;
+    println!(rt;
+        "conflicts {conflicts} forgotten {forgotten} back {back} words {} {:?}",
+        log.used(),
+        end
+    )?;
     let again = log_of(alloc, 30, pigeons(alloc)?)?;
     let trace = log.into_trace(alloc)?;
-    assert_eq!(rt; check_trace(alloc, again.originals(), &trace)?, Verdict::Refutes);
+    assert_eq!(rt;
+        check_trace(alloc, again.originals(), &trace)?,
+        Verdict::Refutes
+    );
     Ok(())
 }

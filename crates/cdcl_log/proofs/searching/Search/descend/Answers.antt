@@ -10,5 +10,5 @@ descend-requires-clause-settled c = subst (λ (s : Solving). IsSettledBelow s.tr
 -- deciding keeps what the search keeps
 pub returns-clause-solving : goal.returns-clause-solving
 returns-clause-solving c log solving =
-    let s : Solving = record { limit = c.self.inside.limit; trail = c.self.inside.trail; indices = c.self.inside.indices.items } in
+    let s : Solving = record { limit = c.self.inside.limit; trail = c.self.inside.trail; indices = c.self.inside.indices.items; standings = c.self.inside.standings.items } in
     solving_moved log s c.descend.new.trail (subst (IsSolving log) (sym c.self.view_is) solving) c.descend.ensures.same c.descend.ensures.settled

@@ -14,8 +14,6 @@ mod restarts;
 mod searching;
 mod solver;
 mod steps;
-#[cfg(test)]
-mod tests;
 
 pub use search_defs::{CdclEnd, Standing};
 pub use searching::Search;

@@ -1,3 +1,4 @@
 pub mod StepLemmas
 pub mod DescentLemmas
 pub mod IndexLemmas
+pub mod ForgettingLemmas

@@ -9,9 +9,12 @@
 #![tactic(auto)]
 
 mod descent;
+mod forgetting;
 mod restarts;
+mod searching;
 mod solver;
 mod steps;
 
-pub use search_defs::CdclEnd;
+pub use search_defs::{CdclEnd, Standing};
+pub use searching::Search;
 pub use solver::Solver;

@@ -1,6 +1,6 @@
-use Rattle.std.proofs.Common.{◌≡◌, ◌-◌}
+use Rattle.std.proofs.Common.{◌≡◌, ◌+◌, ◌-◌}
 use Rattle.log_defs.specs.Logs.{Words, Extends}
-use Rattle.search_defs.specs.Solving.{IsSolving}
+use Rattle.search_defs.specs.Solving.{IsSolving, never_back_of}
 use Rattle.cdcl_log.proofs.solver.Solver.solve.Given as goal
 
 -- the log grew, and the search keeps what it keeps
@@ -11,6 +11,6 @@ invariant-loop-number l = record {
   limit : l.self.limit ≡ l.fn.self.limit;
 }
 
--- fewer words are left
+-- fewer words are left, or fewer clauses that were never put back
 abbrev pub decreases-loop-number : goal.decreases-loop-number
-decreases-loop-number l = l.self.limit - Words l.log.derived
+decreases-loop-number l = l.self.limit - Words l.log.derived + never_back_of l.self.standings

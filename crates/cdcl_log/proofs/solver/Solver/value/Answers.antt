@@ -1,12 +1,8 @@
-use Rattle.std.proofs.Common.{true, subst}
-use Rattle.trail_defs.specs.Assignments.{IsFree}
+use Rattle.std.proofs.Common.{sym, subst}
+use Rattle.search_defs.specs.Ends.{IsTotal}
 use Rattle.search_defs.specs.Solving.{Solving}
-use Rattle.search_defs.proofs.PointLemmas.{none_free}
 use Rattle.cdcl_log.proofs.solver.Solver.value.Goals as goal
 
 -- each variable has a value
-pub returns-in-None : goal.returns-in-None
-returns-in-None c =
-    absurd
-    (none_free c.args.self.now.trail c.requires.point (record { variable = c.args.v; positive = true }) c.requires.low c.requires.high
-    (subst (λ (s : Solving). IsFree s.trail.lits (record { variable = c.args.v; positive = true })) c.self.view_is c.in-None.ensures.none))
+pub value-requires-clause-point : goal.value-requires-clause-point
+value-requires-clause-point c = subst (λ (s : Solving). IsTotal s.trail) (sym c.self.view_is) c.requires.point

@@ -1,5 +1,5 @@
 use Rattle.std.proofs.Common.{◌≡◌, ℕ, ◌+◌, ◌≤◌, length, get_or}
-use Rattle.cdcl_log.proofs.solver.own_indices.Given as goal
+use Rattle.cdcl_log.proofs.searching.own_indices.Given as goal
 
 -- the numbers up to this one are written
 abbrev pub invariant-loop-k : goal.invariant-loop-k

@@ -1,14 +1,18 @@
-use Rattle.std.proofs.Common.{◌≡◌, ◌≤◌, get_or, sym, ap, ◌∙◌, subst, arith}
+use Rattle.std.proofs.Common.{List, Err, ◌≡◌, ◌≤◌, get_or, sym, ap, ◌∙◌, subst, arith}
 use Rattle.clause_defs.specs.Clauses.{Lits}
-use Rattle.log_defs.specs.Logs.{clause_of_log}
+use Rattle.log_defs.specs.Logs.{LogValue, HasDerived, clause_of_log}
+use Rattle.log_defs.specs.declared.log_end.LogEnd.{LogEnd}
 use Rattle.trail_defs.specs.Assignments.{IsConflict}
 use Rattle.trail_defs.specs.Trails.{IsTrail}
-use Rattle.search_defs.specs.Solving.{Solving, IsSolving}
+use Rattle.conflict_lesson.specs.Lessons.{LessonEnds}
+use Rattle.search_defs.specs.declared.standing.Standing.{Standing}
+use Rattle.search_defs.specs.declared.standing.Standing.TheVariants.{Forgotten}
+use Rattle.search_defs.specs.Solving.{Solving, StandsAs, IsSolving}
 use Rattle.search_defs.proofs.ReasonLemmas.{clause_within}
-use Rattle.search_defs.proofs.LessonLemmas.{lesson_is_new}
+use Rattle.search_defs.proofs.LessonLemmas.{lesson_is_new_or_forgotten}
 use Rattle.cdcl_log.specs.Steps.{IsPut}
 use Rattle.cdcl_log.proofs.StepLemmas.{reasoned_with, conflict_known, present_known, taught_with, goes_on}
-use Rattle.cdcl_log.proofs.solver.Solver.learn_from.Goals as goal
+use Rattle.cdcl_log.proofs.searching.Search.learn_from.Goals as goal
 
 -- the clause in conflict is one of the log
 pub conclude-requires-clause-index : goal.conclude-requires-clause-index
@@ -66,7 +70,7 @@ analyze-requires-clause-present c =
 -- the clauses that it follows from are over the variables
 pub bump-requires-clause-within : goal.bump-requires-clause-within
 bump-requires-clause-within c index h l here =
-    let s : Solving = record { limit = c.self.inside.limit; trail = c.self.inside.trail; indices = c.self.inside.indices.items } in
+    let s : Solving = record { limit = c.self.inside.limit; trail = c.self.inside.trail; indices = c.self.inside.indices.items; standings = c.self.inside.standings.items } in
     let solving = subst (IsSolving c.args.log.now) (sym c.self.view_is) c.requires.solving in
     let within =
     clause_within c.args.log.now s solving c.present-present.ensures.known index (c.analyze.ensures.lesson.indices_are index h) l here in
@@ -74,30 +78,38 @@ bump-requires-clause-within c index h l here =
     let own = c.analyze.ensures.variables in
     let kept = c.self.invariant.0 in omega arith
 
--- what the conflict taught isn't derived yet
-pub derive-requires-clause-is_new : goal.derive-requires-clause-is_new
-derive-requires-clause-is_new c =
-    let s : Solving = record { limit = c.self.inside.limit; trail = c.self.inside.trail; indices = c.self.inside.indices.items } in
+-- what the log has already is forgotten
+pub put_back-requires-clause-forgotten : goal.put_back-requires-clause-forgotten
+put_back-requires-clause-forgotten c =
+    let s : Solving = record { limit = c.self.inside.limit; trail = c.self.inside.trail; indices = c.self.inside.indices.items; standings = c.self.inside.standings.items } in
     let taught =
     taught_with c.args.log.now c.self.inside.trail c.literals.result.now c.levels.result.now c.present-present.result
     c.analyze.new.self.antecedents c.analyze.new.self.lits c.levels-2.result.now c.lits.result.now c.second_level-second.result
     c.literals.ensures.literals c.levels.ensures.levels c.present-present.ensures.present c.levels-2.ensures.levels c.lits.ensures
     c.analyze.ensures.lesson c.analyze.ensures.asserting c.second_level-second.ensures in
-    lesson_is_new c.args.log.now s c.analyze.new.self.lits taught.0 c.second_level-second.result
-    (subst (IsSolving c.args.log.now) (sym c.self.view_is) c.requires.solving) c.present-present.ensures.known taught.1
+    let kept : HasDerived c.args.log.now c.analyze.new.self.lits c.in-Err-Kept.index × (c.derive.new.log ≡ c.args.log.now) =
+    subst
+    (λ (e : LogEnd). LessonEnds c.args.log.now c.self.inside.limit (record { lits = c.analyze.new.self.lits; antecedents = c.analyze.new.self.antecedents }) (Err e) c.derive.new.log)
+    c.in-Err-Kept.field-0-is c.in-Err-Kept.ensures.end in
+    subst (λ (l : LogValue). StandsAs l s.standings c.in-Err-Kept.index Forgotten) (sym kept.1)
+    (lesson_is_new_or_forgotten c.args.log.now s c.analyze.new.self.lits taught.0 c.second_level-second.result
+    (subst (IsSolving c.args.log.now) (sym c.self.view_is) c.requires.solving) c.present-present.ensures.known taught.1 c.in-Err-Kept.index kept.0)
 
 -- once it is derived and in the trail, the search goes on
 pub returns-in-Ok-clause-solving : goal.returns-in-Ok-clause-solving
 returns-in-Ok-clause-solving c =
-    let s : Solving = record { limit = c.self.inside.limit; trail = c.self.inside.trail; indices = c.self.inside.indices.items } in
+    let s : Solving = record { limit = c.self.inside.limit; trail = c.self.inside.trail; indices = c.self.inside.indices.items; standings = c.self.inside.standings.items } in
     let taught =
     taught_with c.args.log.now c.self.inside.trail c.literals.result.now c.levels.result.now c.present-present.result
     c.analyze.new.self.antecedents c.analyze.new.self.lits c.levels-2.result.now c.lits.result.now c.second_level-second.result
     c.literals.ensures.literals c.levels.ensures.levels c.present-present.ensures.present c.levels-2.ensures.levels c.lits.ensures
     c.analyze.ensures.lesson c.analyze.ensures.asserting c.second_level-second.ensures in
-    goes_on c.args.log.now c.analyze.new.self.lits c.analyze.new.self.antecedents c.in-Ok.index c.derive.new.log c.in-Ok.ensures.taken s
+    subst
+    (λ (ss : List Standing). IsSolving c.derive.new.log (record { limit = s.limit; trail = c.put.new.trail; indices = c.put.new.indices.items; standings = ss }))
+    (sym c.push_reserved.ensures.items)
+    (goes_on c.args.log.now c.analyze.new.self.lits c.analyze.new.self.antecedents c.in-Ok.index c.derive.new.log c.in-Ok.ensures.end s
     (subst (IsSolving c.args.log.now) (sym c.self.view_is) c.requires.solving) c.in-Ok.ensures.limit c.present-present.ensures.known taught.0
     c.second_level-second.result taught.1 c.back_to.new.trail c.back_to.ensures.lits c.back_to.ensures.levels c.back_to.ensures.present
     c.back_to.ensures.same c.put.new.trail c.put.new.indices.items
     (subst (λ (ls : Lits). IsPut ls c.in-Ok.index c.back_to.new.trail c.self.inside.indices.items c.put.new.trail c.put.new.indices.items)
-    c.lits-in-Ok.ensures c.put.ensures.put)
+    c.lits-in-Ok.ensures c.put.ensures.put))

@@ -1,0 +1,12 @@
+use Rattle.std.proofs.Common.{◌≡◌, vec_capacity}
+use Rattle.search_defs.specs.Solving.{IsSolving, never_back_of}
+use Rattle.cdcl_log.proofs.forgetting.forget_all.Given as goal
+
+-- the search keeps what it keeps
+abbrev pub invariant-loop-number : goal.invariant-loop-number
+invariant-loop-number l = record {
+  solving : IsSolving l.log (record { limit = l.limit; trail = l.trail; indices = l.indices; standings = l.standings.items });
+  never_back : never_back_of l.standings.items ≡ never_back_of l.fn.standings.items;
+  variables : l.trail.variables ≡ l.fn.trail.variables;
+  room : vec_capacity l.standings ≡ vec_capacity l.fn.standings;
+}

@@ -8,14 +8,10 @@
 //! crate `conflict_lesson`.
 #![tactic(auto)]
 
-mod descent;
 mod restarts;
-mod searching;
 mod solver;
-mod steps;
 #[cfg(test)]
 mod tests;
 
 pub use search_defs::CdclEnd;
-pub use searching::Search;
 pub use solver::Solver;

@@ -5,9 +5,9 @@ ghost use Rattle.search_defs.specs.Solving.{IsSolving};
 ghost use Rattle.search_defs.specs.Ends.{SolveEnds, IsTotal};
 
 use crate::restarts::Restarts;
-use crate::searching::Search;
 use pch_base::NoMemory;
 use proof_log::Log;
+use search_core::Search;
 use search_defs::CdclEnd;
 use std::alloc::Global;
 use std::marker::Model;

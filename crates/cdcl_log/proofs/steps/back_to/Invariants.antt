@@ -1,6 +1,0 @@
-use Rattle.std.proofs.Common.{◌≡◌}
-use Rattle.cdcl_log.proofs.steps.back_to.Given as goal
-
--- the order keeps its places
-abbrev pub invariant-loop-l : goal.invariant-loop-l
-invariant-loop-l l = l.order ≡ l.fn.order

@@ -1,0 +1,4 @@
+pub mod ChoiceLemmas
+pub mod StepLemmas
+pub mod DescentLemmas
+pub mod IndexLemmas

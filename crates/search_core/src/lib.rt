@@ -1,0 +1,13 @@
+//! The steps of a search over the clauses of a log's formula.
+//!
+//! A [`Search`] decides variables and draws the consequences until a clause is in conflict, derives what
+//! that teaches, and goes back. When it begins anew is for the crates above.
+#![tactic(auto)]
+
+mod choice;
+mod descent;
+mod searching;
+mod steps;
+
+pub use search_defs::CdclEnd;
+pub use searching::Search;

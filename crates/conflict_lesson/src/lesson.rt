@@ -3,13 +3,14 @@ ghost use Rattle.clause_defs.specs.Literals.{Literal};
 ghost use Rattle.clause_defs.specs.Clauses.{Lits, Has, IsClause, WithinVariables};
 ghost use Rattle.clause_defs.specs.declared.verdict.TheConstants.{MAX_VARIABLE};
 ghost use Rattle.log_defs.specs.Logs.{Words, IsIndexOf, clause_of_log};
-ghost use Rattle.log_defs.specs.Deriving.{IsNew, IsTaken};
+ghost use Rattle.log_defs.specs.Deriving.{IsNew};
 ghost use Rattle.trail_defs.specs.Assignments.{IsConflict};
-ghost use Rattle.conflict_analysis.specs.Analyses.{level_in, IsReasoned, IsAsserting, IsLesson};
+ghost use Rattle.conflict_analysis.specs.Analyses.{level_in, IsReasoned, IsAsserting, IsLesson, AreDecided};
 ghost use Rattle.search_defs.specs.Ends.{IsSpent};
+ghost use Rattle.conflict_lesson.specs.Derivations.{DerivesAs};
 
 use clause_defs::MAX_VARIABLE;
-use conflict_analysis::{analyze, refute};
+use conflict_analysis::{analyze, analyze_decisions, refute};
 use conflict_chain::ConflictChain;
 use decision_order::DecisionOrder;
 use log_defs::LogEnd;
@@ -35,6 +36,15 @@ pub struct Over {
     pub used: u32,
     /// the words of the next one
     pub need: u32,
+}
+
+/// How deriving a lesson ended that is within the limit.
+#[derive(Clone, Copy, Debug, PartialEq, Eq)]
+pub enum Derivation {
+    /// The log has the clause now, with this index.
+    New { index: u32 },
+    /// It had derived the clause before, with this index.
+    Kept { index: u32 },
 }
 
 impl Model for Lesson {
@@ -130,6 +140,41 @@ impl Lesson {
         self.lits.clear();
     }
 
+    /// Learns the clause of decided literals alone from the conflict of the clause with this index.
+    pub fn analyze_decisions(
+        &mut self,
+        log: &Log,
+        trail: &[Lit],
+        levels: &[u32],
+        reasons: &[u32],
+        indices: &[u32],
+        index: u32,
+    )
+        requires reasoned { (present : ℕ) × IsReasoned log.now present trail.now levels.now reasons.now indices.now }
+        requires index { IsIndexOf log.now index }
+        requires conflict { IsConflict trail.now (clause_of_log log.now index) }
+        requires room { self.old.variables ≡ log.now.originals.variables }
+        ensures variables { self.new.variables ≡ self.old.variables }
+        ensures lesson { IsLesson log.now trail.now levels.now self.new.antecedents self.new.lits }
+        ensures decided { AreDecided reasons.now self.new.lits }
+    {
+        analyze_decisions(
+            log,
+            trail,
+            levels,
+            reasons,
+            indices,
+            index,
+            &mut self.chain,
+            &mut self.lits,
+        );
+    }
+
+    /// Whether it follows from one clause alone: then it is that clause.
+    pub fn is_known(&self) -> bool {
+        self.chain.antecedents().len() == 1
+    }
+
     /// The clause's literals, in their order.
     pub fn lits(&self) -> &[Lit]
         ensures { result.now ≡ self.now.lits }
@@ -137,34 +182,35 @@ impl Lesson {
         &self.lits
     }
 
-    /// Derives the clause, which the log doesn't have, if the words of all derived clauses are then within
-    /// the limit. Answers its index; after an error the log is as before. Takes no memory.
-    pub fn derive(&self, log: &mut Log, limit: u32) -> Result<u32, Over>
+    /// Derives the clause, unless it is derived already, if the words of all derived clauses are then within
+    /// the limit. If it isn't new, and after an error, the log is as before. Takes no memory.
+    pub fn derive(&self, log: &mut Log, limit: u32) -> Result<Derivation, Over>
         requires lesson { (trail : Lits) × (levels : List ℕ)
             × IsLesson log.old trail levels self.now.antecedents self.now.lits }
         requires variables { self.now.variables ≡ log.old.originals.variables }
-        requires is_new { IsNew log.old self.now.lits }
         requires none_empty { IsNew log.old [] }
         requires limit { limit ≤ log.old.budget }
         requires spent { Words log.old.derived ≤ limit }
-        ensures taken { IfOk result (λ index.
-            IsTaken log.old (record { lits = self.now.lits; antecedents = self.now.antecedents }) index log.new) }
+        ensures taken { IfOk result (λ d. DerivesAs log.old
+            (record { lits = self.now.lits; antecedents = self.now.antecedents }) d log.new) }
         ensures clause { IfOk result (λ _. IsClause self.now.lits) }
         ensures limit { Words log.new.derived ≤ limit }
         ensures over { IfErr result (λ over. IsSpent log.new limit over.used over.need) }
         ensures same { IfErr result (λ _. log.new ≡ log.old) }
     {
-        let antecedents = self.chain.antecedents();
         literals_are_within_limits(&self.lits);
+        if let Some(index) = log.find(&self.lits) {
+            return Ok(Derivation::Kept { index });
+        }
+        let antecedents = self.chain.antecedents();
         let need = 3 + self.lits.len() as u32 + antecedents.len() as u32;
         let used = log.used();
         if need > limit - used {
             return Err(Over { used, need });
         }
         match log.derive(&self.lits, antecedents) {
-            Ok(index) => Ok(index),
-            // It is new, and within the limit.
-            Err(LogEnd::Kept { index }) => Ok(index),
+            Ok(index) => Ok(Derivation::New { index }),
+            Err(LogEnd::Kept { index }) => Ok(Derivation::Kept { index }),
             Err(LogEnd::Spent { used, need }) => Err(Over { used, need }),
         }
     }

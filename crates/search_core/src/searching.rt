@@ -11,7 +11,7 @@ ghost use Rattle.search_defs.specs.Ends.{SolveEnds, IsTotal};
 use crate::descent::descend;
 use crate::steps::{back_to, put};
 use conflict_analysis::second_level;
-use conflict_lesson::Lesson;
+use conflict_lesson::{Derivation, Lesson};
 use decision_order::DecisionOrder;
 use pch_base::NoMemory;
 use proof_log::Log;
@@ -133,7 +133,7 @@ impl Search {
         self.lesson.bump(log, &mut self.order);
         let second = second_level(self.trail.levels(), present, self.lesson.lits());
         match self.lesson.derive(log, self.limit) {
-            Ok(index) => {
+            Ok(Derivation::New { index } | Derivation::Kept { index }) => {
                 back_to(&mut self.trail, &mut self.order, second);
                 put(
                     &mut self.trail,
@@ -170,7 +170,7 @@ impl Search {
             index,
         );
         match self.lesson.derive(log, self.limit) {
-            Ok(index) => CdclEnd::Empty { index },
+            Ok(Derivation::New { index } | Derivation::Kept { index }) => CdclEnd::Empty { index },
             Err(over) => CdclEnd::Spent {
                 used: over.used,
                 need: over.need,

@@ -1,14 +1,16 @@
-ghost use Rattle.std.specs.Prelude.{◌≡◌, ◌≤◌, [], IfOk};
+ghost use Rattle.std.specs.Prelude.{◌≡◌, ◌≤◌, [], IfOk, IfSome, IfNone};
 ghost use Rattle.clause_defs.specs.Clauses.{Has};
 ghost use Rattle.log_defs.specs.Logs.{LogValue, Words, Extends};
 ghost use Rattle.search_defs.specs.Solving.{IsSolving};
 ghost use Rattle.search_defs.specs.Ends.{SolveEnds, IsTotal};
+ghost use Rattle.sweep_defs.specs.Sweeping.{HasDerivedMore};
 
 use crate::restarts::Restarts;
 use pch_base::NoMemory;
 use proof_log::Log;
 use search_core::Search;
 use search_defs::CdclEnd;
+use signal_sweep::{Signals, sweep};
 use std::alloc::Global;
 use std::marker::Model;
 
@@ -19,14 +21,18 @@ use std::marker::Model;
 pub struct Solver {
     core: Search,
     restarts: Restarts,
+    signals: Signals,
 }
 
 impl Model for Solver {
+    ghost use Rattle.std.specs.Prelude.{◌≡◌};
     ghost use Rattle.search_defs.specs.Solving.{Solving};
 
     ghost Value = { Solving };
 
     ghost view = { λ s. s.core };
+
+    ghost invariant = { λ s. s.signals ≡ s.core.trail.variables };
 }
 
 impl Solver {
@@ -40,6 +46,7 @@ impl Solver {
         Ok(Solver {
             core: Search::open(alloc, log, limit)?,
             restarts: Restarts::new(),
+            signals: Signals::new(alloc, log.originals().variables())?,
         })
     }
 
@@ -53,6 +60,9 @@ impl Solver {
         ensures end { SolveEnds log.new self.new result }
         ensures same_limit { self.new.limit ≡ self.old.limit }
     {
+        if let Some(end) = self.sweep(log) {
+            return end;
+        }
         while let Some(number) = self.core.descend() {
             match self.core.learn_from(number, log) {
                 Some(end) => return end,
@@ -70,6 +80,23 @@ impl Solver {
         ensures { Has self.now.trail.lits (record { variable = v; positive = result }) }
     {
         self.core.value(v)
+    }
+
+    // Derives that variables are equal, where it can, with the last clause of the formula out of the trail.
+    fn sweep(&mut self, log: &mut Log) -> Option<CdclEnd>
+        requires solving { IsSolving log.old self.old }
+        ensures more { HasDerivedMore log.old self.old log.new self.new }
+        ensures solving { IfNone result (IsSolving log.new self.new) }
+        ensures end { IfSome result (λ end. SolveEnds log.new self.new end) }
+    {
+        if !self.core.part(log) {
+            return None;
+        }
+        let end = sweep(&mut self.core, &mut self.signals, log);
+        if end.is_none() {
+            self.core.join(log);
+        }
+        end
     }
 
     // Goes back to level 0 after so many conflicts.

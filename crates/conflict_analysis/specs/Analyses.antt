@@ -59,7 +59,3 @@ pub record IsSecondLevel (levels : List ℕ) (present : ℕ) (c : Lits) (u : Lit
   pub lower : b < present
   pub most : (x : Literal) → Has c x → x ≢ u → level_in levels x ≤ b
   pub reached : (b ≡ 0) ⊎ ((x : Literal) × Has c x × (x ≢ u) × (level_in levels x ≡ b))
-
--- each literal of the clause was decided, not implied
-abbrev pub AreDecided : List ℕ → Lits → Type 0
-AreDecided reasons c = (x : Literal) → Has c x → reason_in reasons x ≡ 0

@@ -1,13 +1,13 @@
 //! The clause that a conflict teaches, and where it asks for a value.
 
-ghost use Rattle.std.specs.Prelude.{◌≡◌, ℕ, ◌<◌, ◌≤◌, ◌⊎◌, [], length, vec_capacity};
+ghost use Rattle.std.specs.Prelude.{◌≡◌, ℕ, ◌<◌, ◌≤◌, [], length, vec_capacity};
 ghost use Rattle.clause_defs.specs.Literals.{Literal};
 ghost use Rattle.clause_defs.specs.Clauses.{Lits, Has};
 ghost use Rattle.log_defs.specs.Logs.{IsIndexOf, clause_of_log};
 ghost use Rattle.trail_defs.specs.Assignments.{IsConflict};
-ghost use Rattle.conflict_analysis.specs.Analyses.{level_in, IsReasoned, IsAsserting, IsLesson, AreDecided, IsSecondLevel};
+ghost use Rattle.conflict_analysis.specs.Analyses.{level_in, IsReasoned, IsAsserting, IsLesson, IsSecondLevel};
 
-use crate::walk::{to_decisions, to_few, to_one};
+use crate::walk::{to_few, to_one};
 use conflict_chain::ConflictChain;
 use pch_base::Lit;
 use proof_log::Log;
@@ -65,49 +65,6 @@ pub fn refute(
     // No literal is of level 1, so none stays.
     chain.start(log, index, levels, 1);
     to_few(log, 1, trail, levels, reasons, indices, trail.len(), chain);
-}
-
-/// The clause of decided literals alone that the conflict of the clause with this index teaches: `lits`
-/// gets its literals, and `chain` the indices that it was resolved from.
-pub fn analyze_decisions(
-    log: &Log,
-    trail: &[Lit],
-    levels: &[u32],
-    reasons: &[u32],
-    indices: &[u32],
-    index: u32,
-    chain: &mut ConflictChain,
-    lits: &mut Vec<Lit>,
-)
-    requires reasoned { (present : ℕ) × IsReasoned log.now present trail.now levels.now reasons.now indices.now }
-    requires index { IsIndexOf log.now index }
-    requires conflict { IsConflict trail.now (clause_of_log log.now index) }
-    requires room { chain.old.variables ≡ log.now.originals.variables }
-    requires lits_room { log.now.originals.variables ≤ vec_capacity lits.old }
-    ensures room { chain.new.variables ≡ chain.old.variables }
-    ensures lits_room { vec_capacity lits.new ≡ vec_capacity lits.old }
-    ensures lesson { IsLesson log.now trail.now levels.now chain.new.antecedents lits.new.items }
-    ensures decided { AreDecided reasons.now lits.new.items }
-{
-    chain.start(log, index, levels, 0);
-    to_decisions(log, trail, levels, reasons, indices, chain);
-    chain.list(lits);
-}
-
-/// The greatest level of a clause's literals.
-pub fn top_level(levels: &[u32], lits: &[Lit]) -> u32
-    requires levels { (l : Literal) → Has lits.now l → l.variable < length levels.now }
-    ensures most { (l : Literal) → Has lits.now l → level_in levels.now l ≤ result }
-    ensures reached { (result ≡ 0) ⊎ ((l : Literal) × Has lits.now l × (level_in levels.now l ≡ result)) }
-{
-    let mut top = 0;
-    for &l in lits {
-        let level = levels[l.variable() as usize];
-        if level > top {
-            top = level;
-        }
-    }
-    top
 }
 
 /// The second greatest level of an asserting clause.

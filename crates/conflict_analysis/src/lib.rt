@@ -3,7 +3,7 @@
 //! The clause in conflict is resolved with the reasons of its literals, from the last one of the trail on,
 //! until one literal of the present level is left. Of the literals of lower levels, those of level 0 are
 //! resolved away too, and those whose reasons bring no other literals. On level 0 that leaves the empty
-//! clause. Or each literal that was implied is resolved away, until decided ones alone are left.
+//! clause.
 //!
 //! The trail comes as slices: its literals, and levels and reasons by variable. `specs/Analyses` has the
 //! definitions.
@@ -12,4 +12,4 @@
 mod analysis;
 mod walk;
 
-pub use analysis::{analyze, analyze_decisions, refute, second_level, top_level};
+pub use analysis::{analyze, refute, second_level};

@@ -6,7 +6,7 @@ ghost use Rattle.clause_defs.specs.Clauses.{Lits, Has};
 ghost use Rattle.log_defs.specs.Logs.{IsIndexOf, clause_of_log};
 ghost use Rattle.trail_defs.specs.Assignments.{IsAt};
 ghost use Rattle.conflict_chain.specs.Conflicts.{IsChainAt, IsSplit};
-ghost use Rattle.conflict_analysis.specs.Analyses.{level_in, reason_in, IsReasonAt, IsReasoned, HasNoRootFrom, AreDecided};
+ghost use Rattle.conflict_analysis.specs.Analyses.{level_in, reason_in, IsReasonAt, IsReasoned, HasNoRootFrom};
 
 use conflict_chain::ConflictChain;
 use pch_base::Lit;
@@ -83,35 +83,6 @@ pub fn to_few(
             continue;
         };
         chain.resolve_at(trail, i, log, index, levels, present);
-    }
-}
-
-/// Resolves each literal that was implied away, from the last one on. Decided ones are left.
-pub fn to_decisions(
-    log: &Log,
-    trail: &[Lit],
-    levels: &[u32],
-    reasons: &[u32],
-    indices: &[u32],
-    chain: &mut ConflictChain,
-)
-    requires reasoned { (present : ℕ) × IsReasoned log.now present trail.now levels.now reasons.now indices.now }
-    requires room { chain.old.variables ≡ log.now.originals.variables }
-    requires chain { IsChainAt log.now trail.now (length trail.now) chain.old }
-    requires split { IsSplit levels.now 0 chain.old }
-    ensures room { chain.new.variables ≡ chain.old.variables }
-    ensures chain { IsChainAt log.now trail.now 0 chain.new }
-    ensures decided { AreDecided reasons.now chain.new.lits }
-{
-    let mut i = trail.len();
-    while i > 0 {
-        i -= 1;
-        let l = trail[i];
-        if !chain.has(l.negated()) || reasons[l.variable() as usize] == 0 {
-            continue;
-        }
-        let index = reason_at(trail, reasons, indices, i);
-        chain.resolve_at(trail, i, log, index, levels, 0);
     }
 }
 

@@ -5,13 +5,15 @@ ghost use Rattle.clause_defs.specs.declared.verdict.TheConstants.{MAX_VARIABLE};
 ghost use Rattle.log_defs.specs.Logs.{Words, IsIndexOf, clause_of_log};
 ghost use Rattle.log_defs.specs.Deriving.{IsNew};
 ghost use Rattle.trail_defs.specs.Assignments.{IsConflict};
-ghost use Rattle.conflict_analysis.specs.Analyses.{level_in, IsReasoned, IsAsserting, IsLesson, AreDecided};
+ghost use Rattle.conflict_analysis.specs.Analyses.{level_in, IsReasoned, IsAsserting, IsLesson};
+ghost use Rattle.conflict_decisions.specs.Decisions.{AreDecided};
 ghost use Rattle.search_defs.specs.Ends.{IsSpent};
 ghost use Rattle.conflict_lesson.specs.Derivations.{DerivesAs};
 
 use clause_defs::MAX_VARIABLE;
-use conflict_analysis::{analyze, analyze_decisions, refute};
+use conflict_analysis::{analyze, refute};
 use conflict_chain::ConflictChain;
+use conflict_decisions::analyze_decisions;
 use decision_order::DecisionOrder;
 use log_defs::LogEnd;
 use pch_base::{Lit, NoMemory, literals_are_within_limits};
@@ -144,13 +146,14 @@ impl Lesson {
     pub fn analyze_decisions(
         &mut self,
         log: &Log,
+        present: u32,
         trail: &[Lit],
         levels: &[u32],
         reasons: &[u32],
         indices: &[u32],
         index: u32,
     )
-        requires reasoned { (present : ℕ) × IsReasoned log.now present trail.now levels.now reasons.now indices.now }
+        requires reasoned { IsReasoned log.now present trail.now levels.now reasons.now indices.now }
         requires index { IsIndexOf log.now index }
         requires conflict { IsConflict trail.now (clause_of_log log.now index) }
         requires room { self.old.variables ≡ log.now.originals.variables }
@@ -160,6 +163,7 @@ impl Lesson {
     {
         analyze_decisions(
             log,
+            present,
             trail,
             levels,
             reasons,

@@ -4,10 +4,10 @@
 ghost use Rattle.std.specs.Prelude.{◌≡◌, ℕ, ◌+◌, ◌≤◌, Some, IfSome, IfNone};
 ghost use Rattle.clause_defs.specs.Clauses.{Lits};
 ghost use Rattle.clause_defs.specs.declared.verdict.TheConstants.{MAX_VARIABLE};
-ghost use Rattle.trail_defs.specs.Assignments.{IsConflict, IsSatisfied};
+ghost use Rattle.trail_defs.specs.Assignments.{IsConflict};
 ghost use Rattle.trail_defs.specs.Trails.{clause_at, HasSameClauses};
 ghost use Rattle.settled_levels.specs.Levels.{IsSettledBelow};
-ghost use Rattle.search_defs.specs.Ends.{IsTotal};
+ghost use Rattle.sweep_defs.specs.Sweeping.{IsWhole};
 
 use crate::choice::choose;
 use decision_order::DecisionOrder;
@@ -19,14 +19,11 @@ pub fn descend(trail: &mut Trail, order: &DecisionOrder, variables: u32) -> Opti
     requires variables { variables ≡ trail.old.variables }
     requires few { variables ≤ MAX_VARIABLE }
     requires order { order.now ≡ variables + 1 }
-    requires settled { IsSettledBelow trail.old }
-    ensures settled { IsSettledBelow trail.new }
+    ensures settled { IsSettledBelow trail.old → IsSettledBelow trail.new }
     ensures same { HasSameClauses trail.old trail.new }
     ensures conflict { IfSome result (λ k. (c : Lits)
         × (clause_at trail.new.clauses k ≡ Some c) × IsConflict trail.new.lits c) }
-    ensures total { IfNone result (IsTotal trail.new) }
-    ensures satisfied { IfNone result ((k : ℕ) (c : Lits)
-        → clause_at trail.new.clauses k ≡ Some c → IsSatisfied trail.new.lits c) }
+    ensures whole { IfNone result (IsWhole trail.new) }
 {
     'deciding: loop {
         match trail.propagate() {

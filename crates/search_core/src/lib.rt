@@ -6,8 +6,11 @@
 
 mod choice;
 mod descent;
+mod ruling;
 mod searching;
 mod steps;
+mod taking;
 
+pub use ruling::Ruling;
 pub use search_defs::CdclEnd;
 pub use searching::Search;

@@ -1,19 +1,24 @@
-ghost use Rattle.std.specs.Prelude.{◌≡◌, ℕ, ◌+◌, ◌<◌, ◌≤◌, [], length, get_or, Some, IfOk, IfSome, IfNone};
+ghost use Rattle.std.specs.Prelude.{◌≡◌, ℕ, ◌+◌, ◌<◌, ◌≤◌, [], length, get_or, Some, IfOk, IfSome, IfNone, IsTrue, IsFalse};
+ghost use Rattle.clause_defs.specs.Literals.{Literal};
 ghost use Rattle.clause_defs.specs.Clauses.{Lits, Has};
 ghost use Rattle.clause_defs.specs.declared.verdict.TheConstants.{MAX_INDEX};
 ghost use Rattle.log_defs.specs.Logs.{LogValue, Words, Extends, IsIndexOf, clause_of_log};
-ghost use Rattle.trail_defs.specs.Assignments.{IsConflict, IsSatisfied};
-ghost use Rattle.trail_defs.specs.Trails.{clause_at};
-ghost use Rattle.settled_levels.specs.Levels.{IsSettledBelow};
-ghost use Rattle.search_defs.specs.Solving.{IsSolving};
+ghost use Rattle.trail_defs.specs.Assignments.{IsConflict};
+ghost use Rattle.trail_defs.specs.Trails.{clause_at, level_of};
+ghost use Rattle.search_defs.specs.Solving.{Solving, IsSolving};
 ghost use Rattle.search_defs.specs.Ends.{SolveEnds, IsTotal};
+ghost use Rattle.sweep_defs.specs.Sweeping.{last_index, IsGrounded, IsSweeping, IsMoved, IsWhole, HasDerivedMore};
+ghost use Rattle.search_core.specs.Rulings.{RulesSo};
 
 use crate::descent::descend;
+use crate::ruling::Ruling;
 use crate::steps::{back_to, put};
+use crate::taking::take_lesson;
 use conflict_analysis::second_level;
+use conflict_decisions::top_level;
 use conflict_lesson::{Derivation, Lesson};
 use decision_order::DecisionOrder;
-use pch_base::NoMemory;
+use pch_base::{Lit, NoMemory, literals_are_within_limits};
 use proof_log::Log;
 use sat_trail::Trail;
 use search_defs::CdclEnd;
@@ -30,6 +35,8 @@ pub struct Search {
     trail: Trail,
     // The index in the log of each clause of the trail, by its number.
     indices: Vec<u32>,
+    // The number in the trail of the formula's last clause, if it came after the others; else 0.
+    last: u32,
     lesson: Lesson,
     order: DecisionOrder,
 }
@@ -38,15 +45,15 @@ pub struct Search {
 const LEAST_WORDS: u32 = 4;
 
 impl Model for Search {
-    ghost use Rattle.std.specs.Prelude.{◌≡◌, ◌+◌};
-    ghost use Rattle.settled_levels.specs.Levels.{IsSettledBelow};
+    ghost use Rattle.std.specs.Prelude.{◌≡◌, ◌≢◌, ◌+◌, ◌<◌};
     ghost use Rattle.search_defs.specs.Solving.{Solving};
 
     ghost Value = { Solving };
 
     ghost view = { λ s. record { limit = s.limit; trail = s.trail; indices = s.indices.items } };
 
-    ghost invariant = { λ s. (s.lesson.variables ≡ s.trail.variables) × (s.order ≡ s.trail.variables + 1) };
+    ghost invariant = { λ s. (s.lesson.variables ≡ s.trail.variables) × (s.order ≡ s.trail.variables + 1)
+        × (s.last ≢ 0 → s.trail.originals < s.last) };
 }
 
 impl Search {
@@ -57,12 +64,52 @@ impl Search {
         ensures limit { IfOk result (λ s. s.limit ≡ limit) }
         ensures solving { log.now.derived ≡ [] → IfOk result (λ s. IsSolving log.now s) }
     {
+        if log.originals().len() == 0 || log.used() > 0 {
+            return Search::open_whole(alloc, log, limit);
+        }
+        let mut search = Search::open_front(alloc, log, limit)?;
+        search.join(log);
+        Ok(search)
+    }
+
+    // The trail has all clauses of the formula.
+    fn open_whole(alloc: Global, log: &Log, limit: u32) -> Result<Search, NoMemory>
+        requires { limit ≤ log.now.budget }
+        ensures limit { IfOk result (λ s. s.limit ≡ limit) }
+        ensures solving { log.now.derived ≡ [] → IfOk result (λ s. IsSolving log.now s) }
+    {
         let set = log.originals();
         let variables = set.variables();
         Ok(Search {
             limit,
             trail: Trail::open(alloc, set, limit, limit / LEAST_WORDS)?,
             indices: own_indices(alloc, set.len(), limit / LEAST_WORDS)?,
+            last: 0,
+            lesson: Lesson::new(alloc, variables)?,
+            order: DecisionOrder::new(alloc, variables)?,
+        })
+    }
+
+    // The trail has all clauses of the formula but the last one, and room for that.
+    fn open_front(alloc: Global, log: &Log, limit: u32) -> Result<Search, NoMemory>
+        requires limit { limit ≤ log.now.budget }
+        requires some { 1 ≤ last_index log.now }
+        requires nothing { log.now.derived ≡ [] }
+        ensures limit { IfOk result (λ s. s.limit ≡ limit) }
+        ensures sweeping { IfOk result (λ s. IsSweeping log.now s) }
+    {
+        let set = log.originals();
+        let variables = set.variables();
+        let count = set.len();
+        let last = log.clause(count);
+        literals_are_within_limits(last);
+        let places = limit / LEAST_WORDS + 1;
+        let words = limit + last.len() as u32;
+        Ok(Search {
+            limit,
+            trail: Trail::open_front(alloc, set, count - 1, words, places)?,
+            indices: own_indices(alloc, count - 1, places)?,
+            last: 0,
             lesson: Lesson::new(alloc, variables)?,
             order: DecisionOrder::new(alloc, variables)?,
         })
@@ -81,17 +128,21 @@ impl Search {
         }
     }
 
+    /// The clauses and the literals that have a value.
+    pub fn trail(&self) -> &Trail
+        ensures { result.now ≡ self.now.trail }
+    {
+        &self.trail
+    }
+
     /// Decides variables and draws the consequences, until a clause is in conflict, whose number it answers,
     /// or each variable has a value.
     pub fn descend(&mut self) -> Option<u32>
-        requires settled { IsSettledBelow self.old.trail }
         ensures solving { (log : LogValue) → IsSolving log self.old → IsSolving log self.new }
-        ensures same_limit { self.new.limit ≡ self.old.limit }
+        ensures moved { IsMoved self.old self.new }
         ensures conflict { IfSome result (λ k. (c : Lits)
             × (clause_at self.new.trail.clauses k ≡ Some c) × IsConflict self.new.trail.lits c) }
-        ensures total { IfNone result (IsTotal self.new.trail) }
-        ensures satisfied { IfNone result ((k : ℕ) (c : Lits)
-            → clause_at self.new.trail.clauses k ≡ Some c → IsSatisfied self.new.trail.lits c) }
+        ensures whole { IfNone result (IsWhole self.new.trail) }
     {
         descend(&mut self.trail, &self.order, self.lesson.variables())
     }
@@ -99,7 +150,8 @@ impl Search {
     /// Goes back to level 0.
     pub fn back_to_root(&mut self)
         ensures solving { (log : LogValue) → IsSolving log self.old → IsSolving log self.new }
-        ensures same_limit { self.new.limit ≡ self.old.limit }
+        ensures moved { IsMoved self.old self.new }
+        ensures root { self.new.trail.present ≡ 0 }
     {
         back_to(&mut self.trail, &mut self.order, 0);
     }
@@ -150,9 +202,165 @@ impl Search {
         }
     }
 
+    /// Takes the last clause of the formula out of the trail, if it stands there and nothing has a value.
+    pub fn part(&mut self, log: &Log) -> bool
+        requires solving { IsSolving log.now self.old }
+        ensures same_limit { self.new.limit ≡ self.old.limit }
+        ensures sweeping { IsTrue result → IsSweeping log.now self.new }
+        ensures solving { IsFalse result → IsSolving log.now self.new }
+    {
+        let last = self.last;
+        if last == 0 || !self.trail.is_live(last) || self.trail.len() > 0 {
+            return false;
+        }
+        if self.indices[last as usize] != log.originals().len() {
+            return false;
+        }
+        self.trail.forget(last);
+        self.last = 0;
+        true
+    }
+
+    /// Puts it into the trail again, on level 0.
+    pub fn join(&mut self, log: &Log)
+        requires sweeping { IsSweeping log.now self.old }
+        ensures same_limit { self.new.limit ≡ self.old.limit }
+        ensures solving { IsSolving log.now self.new }
+    {
+        let count = log.originals().len();
+        back_to(&mut self.trail, &mut self.order, 0);
+        self.last = put(&mut self.trail, &mut self.indices, log.clause(count), count);
+    }
+
+    /// Gives the values that live clauses imply, or answers the number of one that is in conflict.
+    pub fn propagate(&mut self) -> Option<u32>
+        ensures moved { IsMoved self.old self.new }
+    {
+        self.trail.propagate()
+    }
+
+    /// Opens a level with this literal, if its variable has no value.
+    pub fn assume(&mut self, l: Lit)
+        requires { l.variable ≤ self.old.trail.variables }
+        ensures moved { IsMoved self.old self.new }
+    {
+        if !self.trail.holds(l) && !self.trail.holds(l.negated()) {
+            self.trail.assign(l);
+        }
+    }
+
+    /// A new question is asked: what was met before counts for less.
+    pub fn fade(&mut self)
+        ensures { self.new ≡ self.old }
+    {
+        self.order.fade();
+    }
+
+    /// The variable is part of what the question is about, by its rank among so many.
+    pub fn lift(&mut self, variable: u32, rank: u32, size: u32)
+        requires { variable ≤ self.old.trail.variables }
+        ensures { self.new ≡ self.old }
+    {
+        self.order.lift(variable, rank, size);
+    }
+
+    /// Derives what a clause in conflict teaches in a sweep, where the first levels, so many, are of
+    /// literals that are assumed.
+    pub fn learn_from_question(&mut self, number: u32, assumed: u32, log: &mut Log) -> Ruling
+        requires sweeping { IsSweeping log.old self.old }
+        requires conflict { (c : Lits)
+            × (clause_at self.old.trail.clauses number ≡ Some c) × IsConflict self.old.trail.lits c }
+        ensures more { HasDerivedMore log.old self.old log.new self.new }
+        ensures rules { RulesSo log.new self.new result }
+    {
+        let index = self.indices[number as usize];
+        let level = top_level(self.trail.levels(), log.clause(index));
+        back_to(&mut self.trail, &mut self.order, level);
+        if level == 0 {
+            return Ruling::Ended(self.conclude(index, log));
+        }
+        if level <= assumed {
+            self.rule_out(index, log)
+        } else {
+            self.learn_below(index, level, assumed, log)
+        }
+    }
+
+    // Derives the clause over what is assumed, from the clause with this index, which is in conflict.
+    fn rule_out(&mut self, index: u32, log: &mut Log) -> Ruling
+        requires sweeping { IsSweeping log.old self.old }
+        requires index { IsIndexOf log.old index }
+        requires conflict { IsConflict self.old.trail.lits (clause_of_log log.old index) }
+        ensures more { HasDerivedMore log.old self.old log.new self.new }
+        ensures rules { RulesSo log.new self.new result }
+    {
+        self.lesson.analyze_decisions(
+            log,
+            self.trail.present(),
+            self.trail.literals(),
+            self.trail.levels(),
+            self.trail.reasons(),
+            &self.indices,
+            index,
+        );
+        self.lesson.bump(log, &mut self.order);
+        back_to(&mut self.trail, &mut self.order, 0);
+        if self.lesson.is_known() {
+            return Ruling::RuledOut;
+        }
+        match take_lesson(
+            self.limit,
+            &mut self.trail,
+            &mut self.indices,
+            &self.lesson,
+            log,
+        ) {
+            None => Ruling::RuledOut,
+            Some(end) => Ruling::Ended(end),
+        }
+    }
+
+    // Derives what the conflict on this level teaches, and goes back.
+    fn learn_below(&mut self, index: u32, level: u32, assumed: u32, log: &mut Log) -> Ruling
+        requires sweeping { IsSweeping log.old self.old }
+        requires index { IsIndexOf log.old index }
+        requires conflict { IsConflict self.old.trail.lits (clause_of_log log.old index) }
+        requires level { level ≡ self.old.trail.present }
+        requires high { 1 ≤ level }
+        requires present { (x : Literal) × Has (clause_of_log log.old index) x
+            × (level_of self.old.trail x ≡ level) }
+        ensures more { HasDerivedMore log.old self.old log.new self.new }
+        ensures rules { RulesSo log.new self.new result }
+    {
+        self.lesson.analyze(
+            log,
+            level,
+            self.trail.literals(),
+            self.trail.levels(),
+            self.trail.reasons(),
+            &self.indices,
+            index,
+        );
+        self.lesson.bump(log, &mut self.order);
+        let second = second_level(self.trail.levels(), level, self.lesson.lits());
+        // Below the last level that is assumed nothing was drawn from what is.
+        let back = if second < assumed { 0 } else { second };
+        back_to(&mut self.trail, &mut self.order, back);
+        match take_lesson(
+            self.limit,
+            &mut self.trail,
+            &mut self.indices,
+            &self.lesson,
+            log,
+        ) {
+            None => Ruling::GoesOn,
+            Some(end) => Ruling::Ended(end),
+        }
+    }
+
     // Derives the empty clause from the clause with this index, which is in conflict on level 0.
     fn conclude(&mut self, index: u32, log: &mut Log) -> CdclEnd
-        requires solving { IsSolving log.old self.old }
+        requires grounded { IsGrounded log.old self.old }
         requires root { self.old.trail.present ≡ 0 }
         requires index { IsIndexOf log.old index }
         requires conflict { IsConflict self.old.trail.lits (clause_of_log log.old index) }

@@ -26,16 +26,22 @@ pub fn back_to(trail: &mut Trail, order: &mut DecisionOrder, level: u32)
     trail.back_to(level);
 }
 
-/// Puts a clause into the trail, under its index in the log. There is room for it.
-pub fn put(trail: &mut Trail, indices: &mut Vec<u32>, lits: &[Lit], index: u32)
+/// Puts a clause into the trail, under its index in the log, and answers its number. There is room for it.
+pub fn put(trail: &mut Trail, indices: &mut Vec<u32>, lits: &[Lit], index: u32) -> u32
     requires clause { IsClause lits.now }
     requires within { WithinVariables trail.old.variables lits.now }
     requires words { words_of trail.old.clauses + length lits.now ≤ trail.old.words }
     requires blocks { blocks_of trail.old.clauses < length trail.old.clauses }
     requires size { length trail.old.clauses < length indices.old.items }
     ensures put { IsPut lits.now index trail.old indices.old.items trail.new indices.new.items }
+    ensures learned { trail.old.originals < result }
 {
-    if let Ok(number) = trail.learn(lits) {
-        indices[number as usize] = index;
+    match trail.learn(lits) {
+        Ok(number) => {
+            indices[number as usize] = index;
+            number
+        }
+        // There is room.
+        Err(_) => 0,
     }
 }

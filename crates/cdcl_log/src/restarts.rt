@@ -1,9 +1,12 @@
 //! When the search begins anew from level 0: after so many conflicts, by the sequence 1, 1, 2, 1, 1, 2, 4,
-//! .. of Luby, Sinclair and Zuckerman.
+//! .. of Luby, Sinclair and Zuckerman. And when it forgets clauses: at each so many of these restarts.
 
 // The conflicts for a 1 of the sequence. Moving averages of levels gave 569 of 595 real pairs within
 // 2,097,152 words, and so did this, without them.
 const UNIT: u64 = 64;
+
+// The restarts from one forgetting to the next: some 2,000 conflicts.
+const RESTARTS: u64 = 16;
 
 /// The conflicts since the last restart, and the place in the sequence.
 #[derive(Debug, Drop)]
@@ -12,6 +15,8 @@ pub struct Restarts {
     // Knuth's pair: the second number runs through the sequence.
     place: u64,
     term: u64,
+    // The restarts since clauses were forgotten.
+    restarts: u64,
 }
 
 impl Restarts {
@@ -21,6 +26,7 @@ impl Restarts {
             conflicts: 0,
             place: 1,
             term: 1,
+            restarts: 0,
         }
     }
 
@@ -32,6 +38,16 @@ impl Restarts {
         }
         self.conflicts = 0;
         self.advance();
+        true
+    }
+
+    /// Counts a restart, and says whether it is time to forget clauses.
+    pub fn is_forgetting_due(&mut self) -> bool {
+        self.restarts = self.restarts.saturating_add(1);
+        if self.restarts < RESTARTS {
+            return false;
+        }
+        self.restarts = 0;
         true
     }
 

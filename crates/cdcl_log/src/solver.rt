@@ -1,7 +1,7 @@
 ghost use Rattle.std.specs.Prelude.{◌≡◌, ◌≤◌, [], IfOk, IfSome, IfNone};
 ghost use Rattle.clause_defs.specs.Clauses.{Has};
-ghost use Rattle.log_defs.specs.Logs.{LogValue, Words, Extends};
-ghost use Rattle.search_defs.specs.Solving.{IsSolving};
+ghost use Rattle.log_defs.specs.Logs.{Words, Extends};
+ghost use Rattle.search_defs.specs.Solving.{never_back_of, IsSolving};
 ghost use Rattle.search_defs.specs.Ends.{SolveEnds, IsTotal};
 ghost use Rattle.sweep_defs.specs.Sweeping.{HasDerivedMore};
 
@@ -66,7 +66,7 @@ impl Solver {
         while let Some(number) = self.core.descend() {
             match self.core.learn_from(number, log) {
                 Some(end) => return end,
-                None => self.restart_if_due(),
+                None => self.restart_if_due(log),
             }
         }
         CdclEnd::Point
@@ -85,6 +85,7 @@ impl Solver {
     // Derives that variables are equal, where it can, with the last clause of the formula out of the trail.
     fn sweep(&mut self, log: &mut Log) -> Option<CdclEnd>
         requires solving { IsSolving log.old self.old }
+        requires nothing { log.old.derived ≡ [] }
         ensures more { HasDerivedMore log.old self.old log.new self.new }
         ensures solving { IfNone result (IsSolving log.new self.new) }
         ensures end { IfSome result (λ end. SolveEnds log.new self.new end) }
@@ -99,13 +100,18 @@ impl Solver {
         end
     }
 
-    // Goes back to level 0 after so many conflicts.
-    fn restart_if_due(&mut self)
-        ensures solving { (log : LogValue) → IsSolving log self.old → IsSolving log self.new }
+    // Goes back to level 0 after so many conflicts, and forgets clauses there after so many restarts.
+    fn restart_if_due(&mut self, log: &Log)
+        requires solving { IsSolving log.now self.old }
+        ensures solving { IsSolving log.now self.new }
         ensures same_limit { self.new.limit ≡ self.old.limit }
+        ensures never_back { never_back_of self.new.standings ≡ never_back_of self.old.standings }
     {
         if self.restarts.is_due() {
             self.core.back_to_root();
+            if self.restarts.is_forgetting_due() {
+                self.core.forget(log);
+            }
         }
     }
 }

@@ -1,2 +1,1 @@
 pub mod Lessons
-pub mod Derivations

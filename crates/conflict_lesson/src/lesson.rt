@@ -1,4 +1,4 @@
-ghost use Rattle.std.specs.Prelude.{◌≡◌, ℕ, ◌+◌, ◌<◌, ◌≤◌, List, [], length, IfOk, IfErr};
+ghost use Rattle.std.specs.Prelude.{◌≡◌, ℕ, ◌+◌, ◌<◌, ◌≤◌, List, [], length, IfOk, ◌↔◌, IsTrue};
 ghost use Rattle.clause_defs.specs.Literals.{Literal};
 ghost use Rattle.clause_defs.specs.Clauses.{Lits, Has, IsClause, WithinVariables};
 ghost use Rattle.clause_defs.specs.declared.verdict.TheConstants.{MAX_VARIABLE};
@@ -7,8 +7,7 @@ ghost use Rattle.log_defs.specs.Deriving.{IsNew};
 ghost use Rattle.trail_defs.specs.Assignments.{IsConflict};
 ghost use Rattle.conflict_analysis.specs.Analyses.{level_in, IsReasoned, IsAsserting, IsLesson};
 ghost use Rattle.conflict_decisions.specs.Decisions.{AreDecided};
-ghost use Rattle.search_defs.specs.Ends.{IsSpent};
-ghost use Rattle.conflict_lesson.specs.Derivations.{DerivesAs};
+ghost use Rattle.conflict_lesson.specs.Lessons.{LessonEnds};
 
 use clause_defs::MAX_VARIABLE;
 use conflict_analysis::{analyze, refute};
@@ -29,24 +28,6 @@ pub struct Lesson {
     chain: ConflictChain,
     // The clause's literals, in their order.
     lits: Vec<Lit>,
-}
-
-/// The next clause is over the limit.
-#[derive(Clone, Copy, Debug, PartialEq, Eq)]
-pub struct Over {
-    /// the words of the derived clauses
-    pub used: u32,
-    /// the words of the next one
-    pub need: u32,
-}
-
-/// How deriving a lesson ended that is within the limit.
-#[derive(Clone, Copy, Debug, PartialEq, Eq)]
-pub enum Derivation {
-    /// The log has the clause now, with this index.
-    New { index: u32 },
-    /// It had derived the clause before, with this index.
-    Kept { index: u32 },
 }
 
 impl Model for Lesson {
@@ -175,7 +156,9 @@ impl Lesson {
     }
 
     /// Whether it follows from one clause alone: then it is that clause.
-    pub fn is_known(&self) -> bool {
+    pub fn is_known(&self) -> bool
+        ensures { IsTrue result ↔ (length self.now.antecedents ≡ 1) }
+    {
         self.chain.antecedents().len() == 1
     }
 
@@ -186,37 +169,33 @@ impl Lesson {
         &self.lits
     }
 
-    /// Derives the clause, unless it is derived already, if the words of all derived clauses are then within
-    /// the limit. If it isn't new, and after an error, the log is as before. Takes no memory.
-    pub fn derive(&self, log: &mut Log, limit: u32) -> Result<Derivation, Over>
+    /// Derives the clause, if the words of all derived clauses are then within the limit, and answers its
+    /// index. After an error the log is as before: [`LogEnd::Kept`] comes exactly where the log has derived
+    /// this clause already, and else [`LogEnd::Spent`] exactly where the words are over the limit. Takes no
+    /// memory.
+    pub fn derive(&self, log: &mut Log, limit: u32) -> Result<u32, LogEnd>
         requires lesson { (trail : Lits) × (levels : List ℕ)
             × IsLesson log.old trail levels self.now.antecedents self.now.lits }
         requires variables { self.now.variables ≡ log.old.originals.variables }
         requires none_empty { IsNew log.old [] }
         requires limit { limit ≤ log.old.budget }
         requires spent { Words log.old.derived ≤ limit }
-        ensures taken { IfOk result (λ d. DerivesAs log.old
-            (record { lits = self.now.lits; antecedents = self.now.antecedents }) d log.new) }
-        ensures clause { IfOk result (λ _. IsClause self.now.lits) }
+        ensures end { LessonEnds log.old limit
+            (record { lits = self.now.lits; antecedents = self.now.antecedents }) result log.new }
+        ensures clause { IsClause self.now.lits }
         ensures limit { Words log.new.derived ≤ limit }
-        ensures over { IfErr result (λ over. IsSpent log.new limit over.used over.need) }
-        ensures same { IfErr result (λ _. log.new ≡ log.old) }
     {
-        literals_are_within_limits(&self.lits);
-        if let Some(index) = log.find(&self.lits) {
-            return Ok(Derivation::Kept { index });
-        }
         let antecedents = self.chain.antecedents();
+        literals_are_within_limits(&self.lits);
         let need = 3 + self.lits.len() as u32 + antecedents.len() as u32;
         let used = log.used();
         if need > limit - used {
-            return Err(Over { used, need });
+            return match log.find(&self.lits) {
+                Some(index) => Err(LogEnd::Kept { index }),
+                None => Err(LogEnd::Spent { used, need }),
+            };
         }
-        match log.derive(&self.lits, antecedents) {
-            Ok(index) => Ok(Derivation::New { index }),
-            Err(LogEnd::Kept { index }) => Ok(Derivation::Kept { index }),
-            Err(LogEnd::Spent { used, need }) => Err(Over { used, need }),
-        }
+        log.derive(&self.lits, antecedents)
     }
 
     /// The variables of the clauses that it follows from met a conflict.

@@ -6,4 +6,4 @@
 
 mod lesson;
 
-pub use lesson::{Derivation, Lesson, Over};
+pub use lesson::Lesson;

@@ -2,3 +2,4 @@ pub mod ChoiceLemmas
 pub mod StepLemmas
 pub mod DescentLemmas
 pub mod IndexLemmas
+pub mod ForgettingLemmas

@@ -1,5 +1,5 @@
 -- What the search keeps after a conflict.
-use Rattle.std.proofs.Common.{◌≡◌, ℕ, suc, ◌+◌, ◌<◌, ◌≤◌, List, [], ◌∷◌, ◌++◌, length, set, get_or, sum_by, Option, Some, None, refl, sym, ap, ◌∙◌, subst, arith, length-append}
+use Rattle.std.proofs.Common.{◌≡◌, ℕ, suc, ◌+◌, ◌*◌, ◌<◌, ◌≤◌, List, [], ◌∷◌, ◌++◌, length, set, get_or, sum_by, Option, Some, None, refl, sym, ap, ◌∙◌, subst, arith, length-append}
 use Rattle.std.proofs.lemmas.List.{get_or_read}
 use Rattle.clause_defs.specs.Literals.{Literal}
 use Rattle.clause_defs.specs.Clauses.{Lits, Has, SameSet}
@@ -13,13 +13,32 @@ use Rattle.trail_defs.specs.Trails.{Assigned, clause_at, level_of, IsTrail, IsUp
 use Rattle.conflict_analysis.specs.Analyses.{IsReasoned, IsAsserting, IsLesson, IsSecondLevel}
 use Rattle.settled_levels.specs.Levels.{IsTaught}
 use Rattle.settled_levels.proofs.KeepLemmas.{settled_back}
-use Rattle.search_defs.specs.Solving.{Solving, Knows, IsSolving, HasLearned}
+use Rattle.search_defs.specs.declared.standing.Standing.TheVariants.{Learned, Forgotten, Back}
+use Rattle.search_defs.specs.Solving.{Solving, Knows, StandsAs, derived_place, never_back_of, IsSolving, HasLearned}
 use Rattle.search_defs.specs.Ends.{IsRefuted}
+use Rattle.search_defs.proofs.OwedLemmas.{owed_back, forgotten_less, never_back_less}
+use Rattle.search_defs.proofs.BackLemmas.{place_inside, stands_clause, solving_put_back}
 use Rattle.search_defs.proofs.LearnLemmas.{new_clause, solving_learned, solving_moved}
 use Rattle.search_defs.proofs.LessonLemmas.{conflict_present, taught_of}
 use Rattle.search_defs.proofs.ReasonLemmas.{number_within, trail_reasoned}
 use Rattle.conflict_lesson.proofs.SpentLemmas.{words_taken}
 use Rattle.search_core.specs.Steps.{IsPut}
+
+-- the search went back to a level, and then the clause was put into the trail
+learned_of : (b : ℕ) (c : Lits) (index : ℕ) (t back : Assigned) (indices : List ℕ) (now : Assigned) (indices_now : List ℕ)
+    → IsUpTo b t back → back.levels ≡ t.levels → back.present ≡ b → HasSameClauses t back
+    → (put : IsPut c index back indices now indices_now) → HasLearned b c t put.place now
+learned_of b c index t back indices now indices_now up levels present same put = record {
+  back = back;
+  up = up;
+  levels = levels;
+  present = present;
+  same = same;
+  inside = put.inside;
+  fresh = put.fresh;
+  clauses = put.clauses;
+  values = put.values;
+}
 
 module _ (log : LogValue) (c : Lits) (antecedents : List ℕ) (index : ℕ) (later : LogValue) (taken : IsTaken log (record { lits = c; antecedents = antecedents }) index later) where
   -- the log has one clause more
@@ -50,6 +69,10 @@ module _ (log : LogValue) (c : Lits) (antecedents : List ℕ) (index : ℕ) (lat
         last = omega arith;
       }
 
+  -- it spent four words at least
+  pub four_more : (u : Literal) → Has c u → Words log.derived + 4 ≤ Words later.derived
+  four_more u there = let some = some_length c u there in let more = words_taken log c antecedents index later taken in omega arith
+
   module _ (s : Solving) (solving : IsSolving log s) (spent : Words later.derived ≤ s.limit) where
     -- there is room for the clause
     pub words_left : sum_by size s.trail.clauses + length c ≤ s.trail.words
@@ -58,28 +81,61 @@ module _ (log : LogValue) (c : Lits) (antecedents : List ℕ) (index : ℕ) (lat
     pub blocks_left : (u : Literal) → Has c u → sum_by one s.trail.clauses < length s.trail.clauses
     blocks_left u there = let some = some_length c u there in let places = solving.places in let more = words_taken log c antecedents index later taken in omega arith
 
+    -- and for how it stands
+    pub standings_left : (u : Literal) → Has c u → (room : ℕ) → s.limit ≤ 4 * room + 3 → length s.standings < room
+    standings_left u there room few =
+        let more = four_more u there in
+        let each = solving.each_stands in
+        let all = solving.few in omega arith
+
     -- once the search went back and put it there, it goes on
     pub goes_on : IsTrail s.trail → (u : Literal) (b : ℕ) → IsTaught s.trail c u b
         → (back : Assigned) → IsUpTo b s.trail back → back.levels ≡ s.trail.levels → back.present ≡ b → HasSameClauses s.trail back
         → (now : Assigned) (indices : List ℕ) → IsPut c index back s.indices now indices
-        → IsSolving later (record { limit = s.limit; trail = now; indices = indices })
+        → IsSolving later (record { limit = s.limit; trail = now; indices = indices; standings = s.standings ++ Learned ∷ [] })
     goes_on known u b taught back up levels present same now indices put =
         let d : Derived = record { lits = c; antecedents = antecedents } in
-        let learned : HasLearned b c s.trail put.place now = record {
-          back = back;
-          up = up;
-          levels = levels;
-          present = present;
-          same = same;
-          inside = put.inside;
-          fresh = put.fresh;
-          clauses = put.clauses;
-          values = put.values;
-        } in
+        let learned = learned_of b c index s.trail back s.indices now indices up levels present same put in
         let words : Words (log.derived ++ d ∷ []) ≤ s.limit = subst (λ (l : LogValue). Words l.derived ≤ s.limit) taken.appended spent in
-        subst (λ (is : List ℕ). IsSolving later (record { limit = s.limit; trail = now; indices = is })) (sym put.listed)
-        (subst (λ (l : LogValue). IsSolving l (record { limit = s.limit; trail = now; indices = set s.indices (suc put.place) index })) (sym taken.appended)
+        subst (λ (is : List ℕ). IsSolving later (record { limit = s.limit; trail = now; indices = is; standings = s.standings ++ Learned ∷ [] })) (sym put.listed)
+        (subst
+        (λ (l : LogValue). IsSolving l (record { limit = s.limit; trail = now; indices = set s.indices (suc put.place) index; standings = s.standings ++ Learned ∷ [] }))
+        (sym taken.appended)
         (solving_learned log s solving known d u b taught index taken.next words put.place now learned))
+
+-- a clause that the search forgot, and a conflict gave again
+module _ (log : LogValue) (s : Solving) (solving : IsSolving log s) (index : ℕ) (stands : StandsAs log s.standings index Forgotten) where
+  -- there is room for it
+  pub words_owed : sum_by size s.trail.clauses + length (clause_of_log log index) ≤ s.trail.words
+  words_owed =
+      let room = solving.room in
+      let spent = solving.spent in
+      let inside = place_inside log s.standings solving.each_stands index Forgotten stands in
+      let own = sym (stands_clause log s.standings solving.each_stands index Forgotten stands) in
+      let owes = owed_back log.derived s.standings (derived_place log index) inside stands.within (clause_of_log log index) own stands.stands in
+      omega arith
+
+  pub blocks_owed : sum_by one s.trail.clauses < length s.trail.clauses
+  blocks_owed =
+      let places = solving.places in
+      let spent = solving.spent in
+      let away = forgotten_less s.standings (derived_place log index) stands.within stands.stands in omega arith
+
+  -- once it is there, one clause less was never put back
+  pub fewer_never_back : never_back_of (set s.standings (derived_place log index) Back) < never_back_of s.standings
+  fewer_never_back = let less = never_back_less s.standings (derived_place log index) stands.within stands.stands in omega arith
+
+  -- and the search goes on
+  pub comes_back : IsTrail s.trail → (u : Literal) (b : ℕ) → IsTaught s.trail (clause_of_log log index) u b
+      → (back : Assigned) → IsUpTo b s.trail back → back.levels ≡ s.trail.levels → back.present ≡ b → HasSameClauses s.trail back
+      → (now : Assigned) (indices : List ℕ) → IsPut (clause_of_log log index) index back s.indices now indices
+      → IsSolving log (record { limit = s.limit; trail = now; indices = indices; standings = set s.standings (derived_place log index) Back })
+  comes_back known u b taught back up levels present same now indices put =
+      let learned = learned_of b (clause_of_log log index) index s.trail back s.indices now indices up levels present same put in
+      subst
+      (λ (is : List ℕ). IsSolving log (record { limit = s.limit; trail = now; indices = is; standings = set s.standings (derived_place log index) Back }))
+      (sym put.listed)
+      (solving_put_back log s solving known (clause_of_log log index) u b taught index stands refl put.place now learned)
 
 -- the slices that a trail lends are one whose reasons are clauses of the log
 pub reasoned_with : (log : LogValue) (t : Assigned) (is : List ℕ) → IsTrail t → Knows log t is → (present : ℕ) (lits : Lits) (levels reasons indices : List ℕ)
@@ -124,7 +180,7 @@ present_known log s solving known high k index c live all_false read =
 
 -- the search goes back
 pub solving_back : (log : LogValue) (s : Solving) → IsSolving log s → (b : ℕ) (t : Assigned) → b ≤ s.trail.present → IsUpTo b s.trail t → t.levels ≡ s.trail.levels
-    → t.present ≡ b → HasSameClauses s.trail t → IsSolving log (record { limit = s.limit; trail = t; indices = s.indices })
+    → t.present ≡ b → HasSameClauses s.trail t → IsSolving log (record { limit = s.limit; trail = t; indices = s.indices; standings = s.standings })
 solving_back log s solving b t low up levels present same =
     solving_moved log s t solving same (settled_back s.trail t b up levels present same.clauses low solving.settled)
 

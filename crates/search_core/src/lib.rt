@@ -6,11 +6,12 @@
 
 mod choice;
 mod descent;
+mod forgetting;
 mod ruling;
 mod searching;
 mod steps;
 mod taking;
 
 pub use ruling::Ruling;
-pub use search_defs::CdclEnd;
+pub use search_defs::{CdclEnd, Standing};
 pub use searching::Search;

@@ -5,55 +5,63 @@ ghost use Rattle.clause_defs.specs.declared.verdict.TheConstants.{MAX_INDEX};
 ghost use Rattle.log_defs.specs.Logs.{LogValue, Words, Extends, IsIndexOf, clause_of_log};
 ghost use Rattle.trail_defs.specs.Assignments.{IsConflict};
 ghost use Rattle.trail_defs.specs.Trails.{clause_at, level_of};
-ghost use Rattle.search_defs.specs.Solving.{Solving, IsSolving};
+ghost use Rattle.settled_levels.specs.Levels.{IsTaught};
+ghost use Rattle.search_defs.specs.Solving.{StandsAs, never_back_of, IsSolving, GetsOn};
 ghost use Rattle.search_defs.specs.Ends.{SolveEnds, IsTotal};
 ghost use Rattle.sweep_defs.specs.Sweeping.{last_index, IsGrounded, IsSweeping, IsMoved, IsWhole, HasDerivedMore};
+ghost use Rattle.search_defs.specs.declared.standing.Standing.TheVariants.{Forgotten};
 ghost use Rattle.search_core.specs.Rulings.{RulesSo};
 
 use crate::descent::descend;
+use crate::forgetting::{LEAST_WORDS, forget_all};
 use crate::ruling::Ruling;
 use crate::steps::{back_to, put};
 use crate::taking::take_lesson;
 use conflict_analysis::second_level;
 use conflict_decisions::top_level;
-use conflict_lesson::{Derivation, Lesson};
+use conflict_lesson::Lesson;
 use decision_order::DecisionOrder;
+use log_defs::LogEnd;
 use pch_base::{Lit, NoMemory, literals_are_within_limits};
 use proof_log::Log;
 use sat_trail::Trail;
-use search_defs::CdclEnd;
+use search_defs::{CdclEnd, Standing};
 use std::alloc::Global;
 use std::marker::Model;
 
 /// The core of a search over the clauses of a log's formula: each call is one step of it.
 ///
-/// Contracts see it as the record `Solving`: the words that it may derive, its trail, and the index in the
-/// log of each of the trail's clauses.
+/// Contracts see it as the record `Solving`: the words that it may derive, its trail, the index in the log of
+/// each of the trail's clauses, and how each derived clause stands.
 #[derive(Debug, Drop)]
 pub struct Search {
     limit: u32,
     trail: Trail,
     // The index in the log of each clause of the trail, by its number.
     indices: Vec<u32>,
+    // How each derived clause stands, in their order.
+    standings: Vec<Standing>,
     // The number in the trail of the formula's last clause, if it came after the others; else 0.
     last: u32,
     lesson: Lesson,
     order: DecisionOrder,
 }
 
-// No learned clause has fewer words: its index, a literal and two zeros.
-const LEAST_WORDS: u32 = 4;
-
 impl Model for Search {
-    ghost use Rattle.std.specs.Prelude.{◌≡◌, ◌≢◌, ◌+◌, ◌<◌};
+    ghost use Rattle.std.specs.Prelude.{◌≡◌, ◌≢◌, ◌+◌, ◌*◌, ◌<◌, ◌≤◌, vec_capacity};
     ghost use Rattle.search_defs.specs.Solving.{Solving};
 
     ghost Value = { Solving };
 
-    ghost view = { λ s. record { limit = s.limit; trail = s.trail; indices = s.indices.items } };
+    ghost view = { λ s. record {
+      limit = s.limit;
+      trail = s.trail;
+      indices = s.indices.items;
+      standings = s.standings.items;
+    } };
 
     ghost invariant = { λ s. (s.lesson.variables ≡ s.trail.variables) × (s.order ≡ s.trail.variables + 1)
-        × (s.last ≢ 0 → s.trail.originals < s.last) };
+        × (s.limit ≤ 4 * vec_capacity s.standings + 3) × (s.last ≢ 0 → s.trail.originals < s.last) };
 }
 
 impl Search {
@@ -84,6 +92,7 @@ impl Search {
             limit,
             trail: Trail::open(alloc, set, limit, limit / LEAST_WORDS)?,
             indices: own_indices(alloc, set.len(), limit / LEAST_WORDS)?,
+            standings: Vec::with_capacity(alloc, (limit / LEAST_WORDS) as usize)?,
             last: 0,
             lesson: Lesson::new(alloc, variables)?,
             order: DecisionOrder::new(alloc, variables)?,
@@ -109,6 +118,7 @@ impl Search {
             limit,
             trail: Trail::open_front(alloc, set, count - 1, words, places)?,
             indices: own_indices(alloc, count - 1, places)?,
+            standings: Vec::with_capacity(alloc, (limit / LEAST_WORDS) as usize)?,
             last: 0,
             lesson: Lesson::new(alloc, variables)?,
             order: DecisionOrder::new(alloc, variables)?,
@@ -147,6 +157,29 @@ impl Search {
         descend(&mut self.trail, &self.order, self.lesson.variables())
     }
 
+    /// How each derived clause stands, in their order.
+    pub fn standings(&self) -> &[Standing]
+        ensures { result.now ≡ self.now.standings }
+    {
+        &self.standings
+    }
+
+    /// Forgets learned clauses that are worth little and are no reason. The log keeps them.
+    pub fn forget(&mut self, log: &Log)
+        requires solving { IsSolving log.now self.old }
+        ensures solving { IsSolving log.now self.new }
+        ensures same_limit { self.new.limit ≡ self.old.limit }
+        ensures never_back { never_back_of self.new.standings ≡ never_back_of self.old.standings }
+    {
+        forget_all(
+            log,
+            self.limit,
+            &mut self.trail,
+            &self.indices,
+            &mut self.standings,
+        );
+    }
+
     /// Goes back to level 0.
     pub fn back_to_root(&mut self)
         ensures solving { (log : LogValue) → IsSolving log self.old → IsSolving log self.new }
@@ -164,7 +197,7 @@ impl Search {
         ensures log { Extends log.old log.new }
         ensures limit { Words log.new.derived ≤ self.old.limit }
         ensures same_limit { self.new.limit ≡ self.old.limit }
-        ensures more { IfNone result (Words log.old.derived < Words log.new.derived) }
+        ensures more { IfNone result (GetsOn log.old self.old.standings log.new self.new.standings) }
         ensures solving { IfNone result (IsSolving log.new self.new) }
         ensures end { IfSome result (λ end. SolveEnds log.new self.new end) }
     {
@@ -185,7 +218,7 @@ impl Search {
         self.lesson.bump(log, &mut self.order);
         let second = second_level(self.trail.levels(), present, self.lesson.lits());
         match self.lesson.derive(log, self.limit) {
-            Ok(Derivation::New { index } | Derivation::Kept { index }) => {
+            Ok(index) => {
                 back_to(&mut self.trail, &mut self.order, second);
                 put(
                     &mut self.trail,
@@ -193,18 +226,36 @@ impl Search {
                     self.lesson.lits(),
                     index,
                 );
+                self.standings.push_reserved(Standing::Learned);
                 None
             }
-            Err(over) => Some(CdclEnd::Spent {
-                used: over.used,
-                need: over.need,
-            }),
+            Err(LogEnd::Kept { index }) => {
+                self.put_back(index, second, log);
+                None
+            }
+            Err(LogEnd::Spent { used, need }) => Some(CdclEnd::Spent { used, need }),
         }
+    }
+
+    // Goes back to a level, and puts a forgotten clause, which a conflict gave again, back into the trail.
+    fn put_back(&mut self, index: u32, level: u32, log: &Log)
+        requires solving { IsSolving log.now self.old }
+        requires taught { (u : Literal) × IsTaught self.old.trail (clause_of_log log.now index) u level }
+        requires forgotten { StandsAs log.now self.old.standings index Forgotten }
+        ensures solving { IsSolving log.now self.new }
+        ensures same_limit { self.new.limit ≡ self.old.limit }
+        ensures fewer { never_back_of self.new.standings < never_back_of self.old.standings }
+    {
+        let place = index - log.originals().len() - 1;
+        back_to(&mut self.trail, &mut self.order, level);
+        put(&mut self.trail, &mut self.indices, log.clause(index), index);
+        self.standings[place as usize] = Standing::Back;
     }
 
     /// Takes the last clause of the formula out of the trail, if it stands there and nothing has a value.
     pub fn part(&mut self, log: &Log) -> bool
         requires solving { IsSolving log.now self.old }
+        requires nothing { log.now.derived ≡ [] }
         ensures same_limit { self.new.limit ≡ self.old.limit }
         ensures sweeping { IsTrue result → IsSweeping log.now self.new }
         ensures solving { IsFalse result → IsSolving log.now self.new }
@@ -312,6 +363,7 @@ impl Search {
             self.limit,
             &mut self.trail,
             &mut self.indices,
+            &mut self.standings,
             &self.lesson,
             log,
         ) {
@@ -350,6 +402,7 @@ impl Search {
             self.limit,
             &mut self.trail,
             &mut self.indices,
+            &mut self.standings,
             &self.lesson,
             log,
         ) {
@@ -378,11 +431,10 @@ impl Search {
             index,
         );
         match self.lesson.derive(log, self.limit) {
-            Ok(Derivation::New { index } | Derivation::Kept { index }) => CdclEnd::Empty { index },
-            Err(over) => CdclEnd::Spent {
-                used: over.used,
-                need: over.need,
-            },
+            Ok(index) => CdclEnd::Empty { index },
+            // It isn't derived before.
+            Err(LogEnd::Kept { index }) => CdclEnd::Empty { index },
+            Err(LogEnd::Spent { used, need }) => CdclEnd::Spent { used, need },
         }
     }
 }

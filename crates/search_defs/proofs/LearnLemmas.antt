@@ -1,24 +1,26 @@
 -- The search goes on after each of its steps.
-use Rattle.std.proofs.Common.{◌≡◌, ◌≢◌, ◌⊎◌, ℕ, zero, suc, ◌+◌, ◌*◌, ◌<◌, ◌≤◌, List, [], ◌∷◌, ◌++◌, length, set, get_or, sum_by, Option, Some, None, inl, inr, refl, sym, ap, ◌∙◌, subst, arith, length-append, length-set, get_or-set_same, get_or-set_other}
-use Rattle.std.proofs.lemmas.Bool.{cases_eq, cases_lt}
-use Rattle.std.proofs.lemmas.List.Sums.{sum_by-set, sum_by_push}
+use Rattle.std.proofs.Common.{◌≡◌, ◌⊎◌, ℕ, suc, ◌+◌, ◌-◌, ◌*◌, ◌<◌, ◌≤◌, List, [], ◌∷◌, ◌++◌, length, set, get_or, sum_by, Option, Some, inl, inr, refl, sym, ap, ◌∙◌, subst, arith, length-append}
+use Rattle.std.proofs.lemmas.Bool.{cases_lt}
+use Rattle.std.proofs.lemmas.List.{get_or_append_left}
+use Rattle.std.proofs.lemmas.List.Sums.{sum_by_push}
 use Rattle.clause_defs.specs.Literals.{Literal}
-use Rattle.clause_defs.specs.Clauses.{Lits, Has, SameSet}
+use Rattle.clause_defs.specs.Clauses.{Lits, Has, SameSet, WithinVariables}
 use Rattle.log_defs.specs.Logs.{Derived, LogValue, words_of, Words, IsIndexOf, HasDerived, clause_of_log}
 use Rattle.log_defs.specs.Deriving.{IsNew, with_derived}
 use Rattle.log_laws.proofs.LogLemmas.{clause_with-before, clause_with-derived, derived_at-last}
 use Rattle.conflict_analysis.proofs.WalkLemmas.{some_length}
 use Rattle.pch_region.specs.Blocks.{size, one}
 use Rattle.trail_defs.specs.Trails.{Assigned, clause_at, IsTrail, HasSameClauses}
-use Rattle.settled_levels.specs.Levels.{IsSettledBelow, IsTaught, IsOpenBelow}
-use Rattle.settled_levels.proofs.FrontLemmas.{open_back}
-use Rattle.settled_levels.proofs.KeepLemmas.{settled_back, settled_learned}
-use Rattle.settled_levels.proofs.LevelLemmas.{taught_is_open}
-use Rattle.search_defs.specs.Solving.{Solving, Knows, IsLive, IsSolving, HasLearned}
+use Rattle.settled_levels.specs.Levels.{IsSettledBelow, IsTaught}
+use Rattle.search_defs.specs.declared.standing.Standing.{Standing}
+use Rattle.search_defs.specs.declared.standing.Standing.TheVariants.{Learned, Forgotten, Back}
+use Rattle.search_defs.specs.Solving.{Solving, IsLive, StandsAs, derived_place, IsForgotten, IsSolving, HasLearned}
+use Rattle.search_defs.proofs.OwedLemmas.{owed_learned, forgotten_learned}
+use Rattle.search_defs.proofs.PutLemmas.{places_stay, words_more, blocks_more, live_new, live_other, knows_put, settled_put}
 
 -- a step that leaves clauses and their indices alone
 pub solving_moved : (log : LogValue) (s : Solving) (t : Assigned) → IsSolving log s → HasSameClauses s.trail t → IsSettledBelow t
-    → IsSolving log (record { limit = s.limit; trail = t; indices = s.indices })
+    → IsSolving log (record { limit = s.limit; trail = t; indices = s.indices; standings = s.standings })
 solving_moved log s t solving same settled =
     let clauses = same.clauses in
     record {
@@ -29,9 +31,13 @@ solving_moved log s t solving same settled =
         size = subst (λ (cs : List (Option Lits)). length cs < length s.indices) (sym clauses) solving.knows.size;
         known = λ k c live. solving.knows.known k c (subst (λ cs. clause_at cs k ≡ Some c) clauses live);
       };
-      live = λ index there.
-          let live = solving.live index there in
-          (live.0, live.1, subst (λ cs. clause_at cs live.0 ≡ Some live.1) (sym clauses) live.2, live.3);
+      many = let many = solving.many in let e = same.originals in omega arith;
+      each_stands = solving.each_stands;
+      few = solving.few;
+      live = λ index there. elim (solving.live index there) [
+        | inl forgotten ↦ inl forgotten
+        | inr live ↦ inr (live.0, live.1, subst (λ cs. clause_at cs live.0 ≡ Some live.1) (sym clauses) live.2, live.3)
+      ];
       room = let room = solving.room in let words = same.words in let held = ap (λ os. sum_by size os) clauses in omega arith;
       places =
           let places = solving.places in
@@ -40,11 +46,6 @@ solving_moved log s t solving same settled =
       settled = settled;
       none_empty = solving.none_empty;
     }
-
--- the clause of another number stays
-clause_other : (cs : List (Option Lits)) (j : ℕ) (o : Option Lits) (n : ℕ) → n ≢ suc j → clause_at (set cs j o) n ≡ clause_at cs n
-clause_other cs j o zero ne = refl
-clause_other cs j o (suc m) ne = get_or-set_other cs j m o None (λ e. ne (ap suc e))
 
 -- a clause is added to the log
 module _ (log : LogValue) (d : Derived) where
@@ -56,6 +57,17 @@ module _ (log : LogValue) (d : Derived) where
   old_index i there = record {
     low = there.low;
     high = let high = there.high in omega (arith, length-append log.derived (d ∷ []));
+  }
+
+  -- those that are forgotten stay so
+  old_forgotten : (ss : List Standing) (i : ℕ) → IsIndexOf log i → IsForgotten log ss i → IsForgotten (with_derived log d) (ss ++ Learned ∷ []) i
+  old_forgotten ss i there forgotten = record {
+    stands = record {
+      derived = forgotten.stands.derived;
+      within = let w = forgotten.stands.within in omega (arith, length-append ss (Learned ∷ []));
+      stands = get_or_append_left ss (Learned ∷ []) Back (derived_place log i) forgotten.stands.within ∙ forgotten.stands.stands;
+    };
+    within_variables = subst (WithinVariables log.originals.variables) (sym (old_clause i there)) forgotten.within_variables;
   }
 
   module _ (index : ℕ) (next : index ≡ length log.originals.clauses + length log.derived + 1) where
@@ -96,91 +108,45 @@ module _ (log : LogValue) (s : Solving) (solving : IsSolving log s) (known : IsT
     (taught : IsTaught s.trail d.lits u b) (index : ℕ) (next : index ≡ length log.originals.clauses + length log.derived + 1)
     (spent : Words (log.derived ++ d ∷ []) ≤ s.limit)
     (j : ℕ) (now : Assigned) (learned : HasLearned b d.lits s.trail j now) where
-  clauses_are : now.clauses ≡ set s.trail.clauses j (Some d.lits)
-  clauses_are = learned.clauses ∙ ap (λ cs. set cs j (Some d.lits)) learned.same.clauses
-
-  was_inside : j < length s.trail.clauses
-  was_inside = subst (λ (cs : List (Option Lits)). j < length cs) learned.same.clauses learned.inside
-
-  was_fresh : get_or s.trail.clauses j None ≡ None
-  was_fresh = ap (λ cs. get_or cs j None) (sym learned.same.clauses) ∙ learned.fresh
-
-  longer : length now.clauses ≡ length s.trail.clauses
-  longer = ap (λ (cs : List (Option Lits)). length cs) clauses_are ∙ length-set s.trail.clauses j (Some d.lits)
-
-  at_new : clause_at now.clauses (suc j) ≡ Some d.lits
-  at_new = ap (λ cs. get_or cs j None) clauses_are ∙ get_or-set_same s.trail.clauses j (Some d.lits) None was_inside
-
-  at_other : (n : ℕ) → n ≢ suc j → clause_at now.clauses n ≡ clause_at s.trail.clauses n
-  at_other n ne = ap (λ cs. clause_at cs n) clauses_are ∙ clause_other s.trail.clauses j (Some d.lits) n ne
-
-  index_new : get_or (set s.indices (suc j) index) (suc j) 0 ≡ index
-  index_new = get_or-set_same s.indices (suc j) index 0 (let a = solving.knows.size in let b = was_inside in omega arith)
-
-  index_other : (n : ℕ) → n ≢ suc j → get_or (set s.indices (suc j) index) n 0 ≡ get_or s.indices n 0
-  index_other n ne = get_or-set_other s.indices (suc j) n index 0 ne
-
-  -- each live clause is one of the log
-  knows_after : Knows (with_derived log d) now (set s.indices (suc j) index)
-  knows_after = record {
-    over = learned.values.variables ∙ learned.same.variables ∙ solving.knows.over;
-    size = let a = solving.knows.size in let b = length-set s.indices (suc j) index in let e = longer in omega arith;
-    known = λ n e live. elim (cases_eq n (suc j)) [
-      | inl is ↦
-          let own : Some d.lits ≡ Some e = sym at_new ∙ ap (λ m. clause_at now.clauses m) (sym is) ∙ live in
-          let lits : d.lits ≡ e = cc in
-          let place : get_or (set s.indices (suc j) index) n 0 ≡ index = ap (λ m. get_or (set s.indices (suc j) index) m 0) is ∙ index_new in (
-            subst (IsIndexOf (with_derived log d)) (sym place) (new_index log d index next),
-            ap (λ i. clause_of_log (with_derived log d) i) place ∙ new_clause log d index next ∙ lits,
-          )
-      | inr ne ↦
-          let own = solving.knows.known n e (sym (at_other n ne) ∙ live) in
-          let place = index_other n ne in (
-            subst (IsIndexOf (with_derived log d)) (sym place) (old_index log d (get_or s.indices n 0) own.0),
-            ap (λ i. clause_of_log (with_derived log d) i) place ∙ old_clause log d (get_or s.indices n 0) own.0 ∙ own.1,
-          )
-    ];
-  }
-
-  -- each clause of the log is live
-  live_after : (i : ℕ) → IsIndexOf (with_derived log d) i → IsLive now (set s.indices (suc j) index) i
+  -- each clause of the log is live or forgotten
+  live_after : (i : ℕ) → IsIndexOf (with_derived log d) i
+      → IsForgotten (with_derived log d) (s.standings ++ Learned ∷ []) i ⊎ IsLive now (set s.indices (suc j) index) i
   live_after i there = elim (which_index log d index next i there) [
-    | inl old ↦
-        let live = solving.live i old in
-        let ne : live.0 ≢ suc j =
-        λ e. (let none : clause_at s.trail.clauses live.0 ≡ None = ap (λ m. clause_at s.trail.clauses m) e ∙ was_fresh in
-        let some = live.2 in absurd (cc)) in
-        (live.0, live.1, at_other live.0 ne ∙ live.2, index_other live.0 ne ∙ live.3)
-    | inr e ↦ (suc j, d.lits, at_new, index_new ∙ sym e)
+    | inl old ↦ elim (solving.live i old) [
+      | inl forgotten ↦ inl (old_forgotten log d s.standings i old forgotten)
+      | inr live ↦ inr (live_other s d.lits b j now learned index solving.knows.size i live)
+    ]
+    | inr e ↦ inr (subst (IsLive now (set s.indices (suc j) index)) (sym e) (live_new s d.lits b j now learned index solving.knows.size))
   ]
 
-  -- below the level that it went back to the new clause is open
-  open_now : IsOpenBelow learned.back d.lits
-  open_now = open_back s.trail learned.back b learned.up learned.levels d.lits learned.present (λ a n less front. taught_is_open s.trail known d.lits u b taught a n less front)
-
-  pub solving_learned : IsSolving (with_derived log d) (record { limit = s.limit; trail = now; indices = set s.indices (suc j) index })
+  pub solving_learned : IsSolving (with_derived log d)
+      (record { limit = s.limit; trail = now; indices = set s.indices (suc j) index; standings = s.standings ++ Learned ∷ [] })
   solving_learned = record {
     limited = solving.limited;
     spent = spent;
-    knows = knows_after;
+    knows =
+        knows_put s d.lits b j now learned index solving.knows.size log (with_derived log d) refl (λ i there. (old_index log d i there, old_clause log d i there))
+        (new_index log d index next) (new_clause log d index next) solving.knows;
+    many = let many = solving.many in let e = learned.values.originals ∙ learned.same.originals in omega arith;
+    each_stands = let each = solving.each_stands in omega (arith, length-append s.standings (Learned ∷ []), length-append log.derived (d ∷ []));
+    few =
+        let few = solving.few in
+        let some = some_length d.lits u taught.there in
+        let all = sum_by_push words_of log.derived d in omega (arith, length-append log.derived (d ∷ []));
     live = live_after;
     room =
         let room = solving.room in
         let words = learned.values.words ∙ learned.same.words in
-        let held = ap (λ os. sum_by size os) clauses_are in
-        let more = sum_by-set size s.trail.clauses j (Some d.lits) None was_inside in
-        let none = ap size was_fresh in
+        let held = words_more s d.lits b j now learned in
+        let owes = owed_learned log.derived s.standings d solving.each_stands in
         let all = sum_by_push words_of log.derived d in omega arith;
     places =
         let places = solving.places in
-        let held = ap (λ os. sum_by one os) clauses_are in
-        let many = longer in
+        let held = blocks_more s d.lits b j now learned in
+        let many = places_stay s d.lits b j now learned in
         let some = some_length d.lits u taught.there in
-        let more = sum_by-set one s.trail.clauses j (Some d.lits) None was_inside in
-        let none = ap one was_fresh in
+        let away = forgotten_learned s.standings in
         let all = sum_by_push words_of log.derived d in omega arith;
-    settled =
-        settled_learned learned.back now j d.lits learned.values learned.clauses learned.inside open_now
-        (settled_back s.trail learned.back b learned.up learned.levels learned.present learned.same.clauses (let lower = taught.lower in omega arith) solving.settled);
+    settled = settled_put s d.lits b j now learned known u taught solving.settled;
     none_empty = none_empty_after log d index next solving.none_empty u taught.there;
   }

@@ -1,5 +1,9 @@
+pub mod OwedLemmas
 pub mod ReasonLemmas
 pub mod LessonLemmas
+pub mod PutLemmas
 pub mod LearnLemmas
+pub mod BackLemmas
+pub mod ForgetLemmas
 pub mod OpenLemmas
 pub mod PointLemmas

@@ -8,7 +8,7 @@ use Rattle.log_defs.specs.Logs.{LogValue, Words, words_of, IsIndexOf, clause_of_
 use Rattle.log_laws.proofs.LogLemmas.{clause_with-original}
 use Rattle.pch_region.specs.Blocks.{size, one}
 use Rattle.trail_defs.specs.Trails.{Assigned, clause_at, IsOpened}
-use Rattle.search_defs.specs.Solving.{Solving, IsSolving}
+use Rattle.search_defs.specs.Solving.{Solving, owed_words, forgotten_of, IsSolving}
 use Rattle.search_defs.proofs.ReasonLemmas.{number_within}
 
 -- clauses that are live, and then places without one
@@ -68,7 +68,7 @@ clause_live cs n (suc i) low high =
 
 pub solving_opened : (log : LogValue) (limit : ℕ) (t : Assigned) (indices : List ℕ) → log.derived ≡ [] → limit ≤ log.budget
     → IsOpened log.originals.variables log.originals.clauses limit (limit / 4) t → length indices ≡ length log.originals.clauses + limit / 4 + 1
-    → ((k : ℕ) → k ≤ length log.originals.clauses → get_or indices k 0 ≡ k) → IsSolving log (record { limit = limit; trail = t; indices = indices })
+    → ((k : ℕ) → k ≤ length log.originals.clauses → get_or indices k 0 ≡ k) → IsSolving log (record { limit = limit; trail = t; indices = indices; standings = [] })
 solving_opened log limit t indices nothing limited begun size_is own =
     let cs = log.originals.clauses in
     let none : Words log.derived ≡ 0 = ap Words nothing in
@@ -91,16 +91,25 @@ solving_opened log limit t indices nothing limited begun size_is own =
               ap (λ i. clause_of_log log i) at ∙ clause_with-original cs log.derived k low high ∙ is.2,
             );
       };
+      many = let many = begun.many in omega arith;
+      each_stands = sym few;
+      few = omega arith;
       live = λ index there.
           let low = there.low in
-          let high : index ≤ length cs = let all = there.high in omega arith in (
+          let high : index ≤ length cs = let all = there.high in omega arith in inr (
             index,
             get_or cs (index - 1) [],
             subst (λ os. clause_at os index ≡ Some (get_or cs (index - 1) [])) (sym held) (clause_live cs (limit / 4) index low high),
             own index high,
           );
-      room = let a = ap (λ os. sum_by size os) held in let b = words_opened cs (limit / 4) in omega arith;
-      places = let a = ap (λ os. sum_by one os) held in let b = blocks_opened cs (limit / 4) in omega arith;
+      room =
+          let a = ap (λ os. sum_by size os) held in
+          let b = words_opened cs (limit / 4) in
+          let owes : owed_words log.derived [] ≡ 0 = ap (λ ds. owed_words ds []) nothing in omega arith;
+      places =
+          let a = ap (λ os. sum_by one os) held in
+          let b = blocks_opened cs (limit / 4) in
+          let away : forgotten_of [] ≡ 0 = refl in omega arith;
       settled = λ k c live b n less front. absurd (let level = begun.level in omega arith);
       none_empty = λ index derived. (let a = derived.behind_originals in let b = derived.within in absurd (omega arith));
     }

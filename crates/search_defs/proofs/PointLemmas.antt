@@ -7,7 +7,7 @@ use Rattle.log_laws.proofs.LogLemmas.{clause_with-original}
 use Rattle.trail_defs.specs.Assignments.{IsFree, IsSettled, IsSatisfied}
 use Rattle.trail_defs.specs.Trails.{Assigned, clause_at, IsTrail}
 use Rattle.assignment.proofs.ApartLemmas.{same_variable}
-use Rattle.search_defs.specs.Solving.{Solving, IsSolving}
+use Rattle.search_defs.specs.Solving.{Solving, IsLive, IsSolving}
 use Rattle.search_defs.specs.Ends.{IsTotal, IsPoint}
 
 -- no literal is free
@@ -32,6 +32,14 @@ has_number [] c h = absurd h
 has_number (d ∷ ds) c (inl e) = (0, omega arith, e)
 has_number (d ∷ ds) c (inr h) = let rest = has_number ds c h in (suc rest.0, let lt = rest.1 in omega arith, rest.2)
 
+-- no clause of the formula is forgotten
+original_live : (log : LogValue) (s : Solving) → IsSolving log s → (index : ℕ) → IsIndexOf log index → index ≤ length log.originals.clauses
+    → IsLive s.trail s.indices index
+original_live log s solving index there low = elim (solving.live index there) [
+  | inl forgotten ↦ absurd (let a = forgotten.stands.derived in omega arith)
+  | inr live ↦ live
+]
+
 pub point_reached : (log : LogValue) (s : Solving) → IsSolving log s → IsTotal s.trail
     → ((k : ℕ) (c : Lits) → clause_at s.trail.clauses k ≡ Some c → IsSatisfied s.trail.lits c) → IsPoint log s
 point_reached log s solving total satisfied = record {
@@ -41,7 +49,7 @@ point_reached log s solving total satisfied = record {
       let at = has_number log.originals.clauses c h in
       let lt = at.1 in
       let there : IsIndexOf log (at.0 + 1) = record { low = omega arith; high = omega arith } in
-      let live = solving.live (at.0 + 1) there in
+      let live = original_live log s solving (at.0 + 1) there (omega arith) in
       let own = solving.knows.known live.0 live.1 live.2 in
       let is : clause_of_log log (at.0 + 1) ≡ live.1 = subst (λ i. clause_of_log log i ≡ live.1) live.3 own.1 in
       let place : at.0 + 1 - 1 ≡ at.0 = omega arith in

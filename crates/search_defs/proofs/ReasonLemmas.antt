@@ -57,9 +57,11 @@ trail_reasoned log t indices known knows level_size reason_size =
 -- no clause of the log has a variable more
 pub clause_within : (log : LogValue) (s : Solving) → IsSolving log s → IsTrail s.trail → (index : ℕ) → IsIndexOf log index
     → WithinVariables log.originals.variables (clause_of_log log index)
-clause_within log s solving known index there =
-    let live = solving.live index there in
-    let own = solving.knows.known live.0 live.1 live.2 in
-    let is : clause_of_log log index ≡ live.1 = subst (λ i. clause_of_log log i ≡ live.1) live.3 own.1 in
-    let within = (known.clauses live.0 live.1 live.2).1 in
-    subst (WithinVariables log.originals.variables) (sym is) (subst (λ v. WithinVariables v live.1) solving.knows.over within)
+clause_within log s solving known index there = elim (solving.live index there) [
+  | inl forgotten ↦ forgotten.within_variables
+  | inr live ↦
+      let own = solving.knows.known live.0 live.1 live.2 in
+      let is : clause_of_log log index ≡ live.1 = subst (λ i. clause_of_log log i ≡ live.1) live.3 own.1 in
+      let within = (known.clauses live.0 live.1 live.2).1 in
+      subst (WithinVariables log.originals.variables) (sym is) (subst (λ v. WithinVariables v live.1) solving.knows.over within)
+]

@@ -109,18 +109,21 @@ settled_assigned t s l known lits levels own present clauses now settled k c liv
     member (x ∷ xs) zero l lt = inl refl
     member (x ∷ xs) (suc n) l lt = inr (member xs n l (omega arith))
 
+-- a front of a trail with the same values
+front_before : (t s : Assigned) → HasSameValues t s → (a n : ℕ) → IsFront s a n → IsFront t a n
+front_before t s same a n front = record {
+  within = subst (λ (ls : Lits). n ≤ length ls) same.lits front.within;
+  left = λ l h. subst (λ ls. get_or ls l.variable 0 ≤ a) same.levels (front.left l (subst (λ (ls : Lits). Has (take n ls) l) (sym same.lits) h));
+  gone = λ i l at past. subst (λ ls. a < get_or ls l.variable 0) same.levels (front.gone i l (subst (λ (ls : Lits). IsAt ls i l) (sym same.lits) at) past);
+}
+
 -- one more live clause that is open below
 pub settled_learned : (t s : Assigned) (j : ℕ) (d : Lits) → HasSameValues t s → s.clauses ≡ set t.clauses j (Some d) → j < length t.clauses
     → IsOpenBelow t d → IsSettledBelow t → IsSettledBelow s
 settled_learned t s j d same clauses within below settled k c live a n less front =
-    let before : IsFront t a n = record {
-      within = subst (λ (ls : Lits). n ≤ length ls) same.lits front.within;
-      left = λ l h. subst (λ ls. get_or ls l.variable 0 ≤ a) same.levels (front.left l (subst (λ (ls : Lits). Has (take n ls) l) (sym same.lits) h));
-      gone = λ i l at past. subst (λ ls. a < get_or ls l.variable 0) same.levels (front.gone i l (subst (λ (ls : Lits). IsAt ls i l) (sym same.lits) at) past);
-    } in
     let lower : a < t.present = let e = same.present in omega arith in
     subst (λ (ls : Lits). IsSettled (take n ls) c) (sym same.lits)
-    (at_number k (subst (λ cs. clause_at cs k ≡ Some c) clauses live) lower before)
+    (at_number k (subst (λ cs. clause_at cs k ≡ Some c) clauses live) lower (front_before t s same a n front))
   where
     at_number : (k : ℕ) → clause_at (set t.clauses j (Some d)) k ≡ Some c → a < t.present → IsFront t a n → IsSettled (take n t.lits) c
     at_number zero none lower before = absurd (cc)
@@ -130,3 +133,10 @@ settled_learned t s j d same clauses within below settled k c live a n less fron
           let is : d ≡ c = cc in subst (IsSettled (take n t.lits)) is (below a n lower before)
       | inr ne ↦ settled (suc i) c (sym (get_or-set_other t.clauses j i (Some d) None ne) ∙ here) a n lower before
     ]
+
+-- fewer live clauses
+pub settled_fewer : (t s : Assigned) → HasSameValues t s → ((k : ℕ) (c : Lits) → clause_at s.clauses k ≡ Some c → clause_at t.clauses k ≡ Some c)
+    → IsSettledBelow t → IsSettledBelow s
+settled_fewer t s same was settled k c live a n less front =
+    subst (λ (ls : Lits). IsSettled (take n ls) c) (sym same.lits)
+    (settled k c (was k c live) a n (let e = same.present in omega arith) (front_before t s same a n front))

@@ -33,6 +33,13 @@ pub fn learning_keeps_levels_settled()
         → IsSettledBelow t → IsSettledBelow s }
 {}
 
+/// So do fewer live clauses.
+pub fn forgetting_keeps_levels_settled()
+    ensures { (t s : Assigned) → HasSameValues t s
+        → ((k : ℕ) (c : Lits) → clause_at s.clauses k ≡ Some c → clause_at t.clauses k ≡ Some c)
+        → IsSettledBelow t → IsSettledBelow s }
+{}
+
 /// A clause that a conflict teaches isn't live.
 pub fn what_is_taught_is_new()
     ensures { (t : Assigned) (c : Lits) (u : Literal) (b n k : ℕ) → IsTrail t → IsSettledBelow t

@@ -6,7 +6,7 @@ use Rattle.log_defs.specs.Deriving.{IsNew}
 use Rattle.pch_region.specs.Blocks.{words_of, blocks_of}
 use Rattle.trail_defs.specs.Trails.{Assigned, clause_at, HasSameClauses}
 use Rattle.trail_defs.specs.Assignments.{IsSatisfied}
-use Rattle.search_defs.specs.Solving.{Solving, Knows, IsLive}
+use Rattle.search_defs.specs.Solving.{Solving, Knows, IsLive, owed_words, forgotten_of}
 use Rattle.search_defs.specs.Ends.{IsTotal, SolveEnds}
 use Rattle.search_defs.specs.declared.end.CdclEnd.{CdclEnd}
 
@@ -22,19 +22,25 @@ pub record IsGrounded (log : LogValue) (s : Solving) : Type 0 where
   pub knows : Knows log s.trail s.indices
   pub none_empty : IsNew log []
 
--- What a sweep keeps: besides, every clause of the log but the formula's last one is live, and there is room for what
--- the limit leaves and for that last clause.
+-- What a sweep keeps: besides, every clause of the log but the formula's last one is live, none is forgotten, and there
+-- is room for what the limit leaves and for that last clause.
 pub record IsSweeping (log : LogValue) (s : Solving) : Type 0 where
   pub grounded : IsGrounded log s
   pub some : 1 ≤ last_index log
+  pub many : s.trail.originals ≤ last_index log
+  pub each_stands : length s.standings ≡ length log.derived
+  pub few : 4 * length log.derived ≤ Words log.derived
+  pub none_owed : owed_words log.derived s.standings ≡ 0
+  pub none_forgotten : forgotten_of s.standings ≡ 0
   pub live : (index : ℕ) → IsIndexOf log index → index ≢ last_index log → IsLive s.trail s.indices index
   pub room : words_of s.trail.clauses + length (clause_of_log log (last_index log)) + s.limit ≤ s.trail.words + Words log.derived
   pub places : 4 * blocks_of s.trail.clauses + s.limit + 1 ≤ 4 * length s.trail.clauses + Words log.derived
 
--- a step leaves the limit, the clauses and their indices alone
+-- a step leaves the limit, the clauses and their indices and standings alone
 pub record IsMoved (before after : Solving) : Type 0 where
   pub limit : after.limit ≡ before.limit
   pub indices : after.indices ≡ before.indices
+  pub standings : after.standings ≡ before.standings
   pub same : HasSameClauses before.trail after.trail
 
 -- each variable has a value, and each live clause a true literal

@@ -7,6 +7,7 @@ ghost use Rattle.trail_defs.specs.Assignments.{IsSatisfied};
 ghost use Rattle.trail_defs.specs.Trails.{Assigned, clause_at, IsOpened, HasSameValues};
 ghost use Rattle.search_defs.specs.Solving.{Solving, IsSolving};
 ghost use Rattle.search_defs.specs.Ends.{IsPoint};
+ghost use Rattle.search_defs.specs.declared.standing.Standing.TheVariants.{Learned};
 ghost use Rattle.sweep_defs.specs.Sweeping.{last_index, IsSweeping, IsMoved, IsWhole};
 
 /// A sweep begins with the clauses of the formula but the last one, each under its number, and room for
@@ -18,7 +19,7 @@ pub fn a_sweep_begins()
         (limit + length (clause_of_log log (last_index log))) (limit / 4 + 1) t
         → length indices ≡ last_index log - 1 + (limit / 4 + 1) + 1
         → ((k : ℕ) → k ≤ last_index log - 1 → get_or indices k 0 ≡ k)
-        → IsSweeping log (record { limit = limit; trail = t; indices = indices }) }
+        → IsSweeping log (record { limit = limit; trail = t; indices = indices; standings = [] }) }
 {}
 
 /// A search in whose trail nothing has a value is a sweep without the last clause.
@@ -26,7 +27,8 @@ pub fn a_search_parts()
     ensures { (log : LogValue) (s : Solving) (j : ℕ) (c : Lits) (now : Assigned) → IsSolving log s
         → 1 ≤ last_index log → clause_at s.trail.clauses (suc j) ≡ Some c → get_or s.indices (suc j) 0 ≡ last_index log
         → now.clauses ≡ set s.trail.clauses j None → HasSameValues s.trail now
-        → IsSweeping log (record { limit = s.limit; trail = now; indices = s.indices }) }
+        → log.derived ≡ []
+        → IsSweeping log (record { limit = s.limit; trail = now; indices = s.indices; standings = s.standings }) }
 {}
 
 /// Steps that leave the clauses alone keep what a sweep keeps.
@@ -41,7 +43,12 @@ pub fn a_sweep_learns()
         → Words (log.derived ++ d ∷ []) ≤ s.limit → j < length s.trail.clauses
         → get_or s.trail.clauses j None ≡ None → now.clauses ≡ set s.trail.clauses j (Some d.lits)
         → HasSameValues s.trail now
-        → IsSweeping (with_derived log d) (record { limit = s.limit; trail = now; indices = set s.indices (suc j) index }) }
+        → IsSweeping (with_derived log d) (record {
+          limit = s.limit;
+          trail = now;
+          indices = set s.indices (suc j) index;
+          standings = s.standings ++ Learned ∷ [];
+        }) }
 {}
 
 /// On level 0 the last clause joins, and the search begins.
@@ -49,7 +56,12 @@ pub fn a_search_takes_over()
     ensures { (log : LogValue) (s : Solving) (j : ℕ) (now : Assigned) → IsSweeping log s → s.trail.present ≡ 0
         → j < length s.trail.clauses → get_or s.trail.clauses j None ≡ None
         → now.clauses ≡ set s.trail.clauses j (Some (clause_of_log log (last_index log))) → HasSameValues s.trail now
-        → IsSolving log (record { limit = s.limit; trail = now; indices = set s.indices (suc j) (last_index log) }) }
+        → IsSolving log (record {
+          limit = s.limit;
+          trail = now;
+          indices = set s.indices (suc j) (last_index log);
+          standings = s.standings;
+        }) }
 {}
 
 /// Where each variable has a value, and each live clause and the last one a true literal, it is a point.

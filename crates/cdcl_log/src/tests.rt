@@ -3,11 +3,12 @@ ghost use Rattle.clause_defs.specs.Clauses.{WithinVariables};
 ghost use Rattle.clause_defs.specs.declared.verdict.TheConstants.{MAX_VARIABLE};
 ghost use Rattle.search_defs.specs.Ends.{IsTotal};
 
-use crate::{CdclEnd, Search, Solver, Standing};
+use crate::{CdclEnd, Solver};
 use chain_check::{Verdict, check_trace};
 use pch_base::{Clause, Lit, NoMemory};
 use proof_log::Log;
 use sat_values::{ClauseSet, Clauses};
+use search_core::{Search, Standing};
 use std::alloc::Global;
 use std::test::Fail;
 

@@ -3,3 +3,4 @@ pub mod StepLemmas
 pub mod DescentLemmas
 pub mod IndexLemmas
 pub mod ForgettingLemmas
+pub mod TakingLemmas

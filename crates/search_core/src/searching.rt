@@ -354,7 +354,6 @@ impl Search {
             &self.indices,
             index,
         );
-        self.lesson.bump(log, &mut self.order);
         back_to(&mut self.trail, &mut self.order, 0);
         if self.lesson.is_known() {
             return Ruling::RuledOut;

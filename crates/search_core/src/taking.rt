@@ -61,6 +61,7 @@ pub fn take_lesson(
             if lesson.lits().is_empty() {
                 return Some(CdclEnd::Empty { index });
             }
+            let _present = trail.present();
             put(trail, indices, lesson.lits(), index);
             standings.push_reserved(Standing::Learned);
             None

@@ -1,5 +1,5 @@
 -- A sweep for equal signals, before the search itself: the last clause of the formula is out of the trail.
-use Rattle.std.specs.Prelude.{◌≡◌, ◌≢◌, ℕ, ◌+◌, ◌*◌, ◌<◌, ◌≤◌, [], length, Option, Some, None}
+use Rattle.std.specs.Prelude.{◌≡◌, ◌≢◌, ℕ, ◌+◌, ◌*◌, ◌≤◌, [], length, Option, Some, None}
 use Rattle.clause_defs.specs.Clauses.{Lits}
 use Rattle.log_defs.specs.Logs.{LogValue, Words, Extends, IsIndexOf, clause_of_log}
 use Rattle.log_defs.specs.Deriving.{IsNew}

@@ -4,7 +4,7 @@ ghost use Rattle.clause_defs.specs.Clauses.{Lits, Has};
 ghost use Rattle.log_defs.specs.Logs.{Derived, LogValue, Words, clause_of_log};
 ghost use Rattle.log_defs.specs.Deriving.{with_derived};
 ghost use Rattle.trail_defs.specs.Assignments.{IsSatisfied};
-ghost use Rattle.trail_defs.specs.Trails.{Assigned, clause_at, IsOpened, HasSameValues};
+ghost use Rattle.trail_defs.specs.Trails.{Assigned, clause_at, IsTrail, IsOpened, HasSameValues};
 ghost use Rattle.search_defs.specs.Solving.{Solving, IsSolving};
 ghost use Rattle.search_defs.specs.Ends.{IsPoint};
 ghost use Rattle.search_defs.specs.declared.standing.Standing.TheVariants.{Learned};
@@ -39,7 +39,7 @@ pub fn a_sweep_moves_on()
 /// A clause with a literal that is derived, and put into the trail, keeps it too.
 pub fn a_sweep_learns()
     ensures { (log : LogValue) (s : Solving) (d : Derived) (u : Literal) (index j : ℕ) (now : Assigned)
-        → IsSweeping log s → Has d.lits u → index ≡ last_index log + length log.derived + 1
+        → IsSweeping log s → IsTrail s.trail → Has d.lits u → index ≡ last_index log + length log.derived + 1
         → Words (log.derived ++ d ∷ []) ≤ s.limit → j < length s.trail.clauses
         → get_or s.trail.clauses j None ≡ None → now.clauses ≡ set s.trail.clauses j (Some d.lits)
         → HasSameValues s.trail now
@@ -53,7 +53,7 @@ pub fn a_sweep_learns()
 
 /// On level 0 the last clause joins, and the search begins.
 pub fn a_search_takes_over()
-    ensures { (log : LogValue) (s : Solving) (j : ℕ) (now : Assigned) → IsSweeping log s → s.trail.present ≡ 0
+    ensures { (log : LogValue) (s : Solving) (j : ℕ) (now : Assigned) → IsSweeping log s → IsTrail s.trail → s.trail.present ≡ 0
         → j < length s.trail.clauses → get_or s.trail.clauses j None ≡ None
         → now.clauses ≡ set s.trail.clauses j (Some (clause_of_log log (last_index log))) → HasSameValues s.trail now
         → IsSolving log (record {

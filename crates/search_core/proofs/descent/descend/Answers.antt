@@ -7,22 +7,24 @@ use Rattle.search_core.proofs.descent.descend.Goals as goal
 
 -- propagation keeps the levels settled
 pub returns-in-Some-clause-settled : goal.returns-in-Some-clause-settled
-returns-in-Some-clause-settled c =
+returns-in-Some-clause-settled c was =
     settled_grown c.deciding.trail c.propagate.new.self c.propagate.ensures.grown c.propagate.ensures.present c.propagate.ensures.same.clauses
-    c.deciding.invariant.settled
+    (c.deciding.invariant.settled was)
 
 pub returns-in_err-l-in-None-clause-settled : goal.returns-in_err-l-in-None-clause-settled
-returns-in_err-l-in-None-clause-settled c =
+returns-in_err-l-in-None-clause-settled c was =
     settled_grown c.deciding.trail c.propagate.new.self c.propagate.ensures.grown c.propagate.ensures.present c.propagate.ensures.same.clauses
-    c.deciding.invariant.settled
+    (c.deciding.invariant.settled was)
 
 -- where each variable has a value, settled clauses are satisfied
-pub returns-in_err-l-in-None-clause-satisfied : goal.returns-in_err-l-in-None-clause-satisfied
-returns-in_err-l-in-None-clause-satisfied c =
-    if_none c.from_residual.result _
-    (λ k d live.
-    all_satisfied c.propagate.new.self c.choose.ensures.known c.in_err-l-in-None.ensures.none k d live
-    (c.in-None.ensures.settled k d (subst (λ cs. clause_at cs k ≡ Some d) c.propagate.ensures.same.clauses live)))
+pub returns-in_err-l-in-None-clause-whole : goal.returns-in_err-l-in-None-clause-whole
+returns-in_err-l-in-None-clause-whole c =
+    if_none c.from_residual.result _ (record {
+      total = c.in_err-l-in-None.ensures.none;
+      satisfied = λ k d live.
+          all_satisfied c.propagate.new.self c.choose.ensures.known c.in_err-l-in-None.ensures.none k d live
+          (c.in-None.ensures.settled k d (subst (λ cs. clause_at cs k ≡ Some d) c.propagate.ensures.same.clauses live));
+    })
 
 -- a decision leaves fewer variables
 pub deciding-smaller : goal.deciding-smaller
@@ -33,16 +35,15 @@ deciding-smaller c =
 
 -- the level that it opens is settled
 pub deciding-preserved : goal.deciding-preserved
-deciding-preserved c =
-    let settled =
-    settled_grown c.deciding.trail c.propagate.new.self c.propagate.ensures.grown c.propagate.ensures.present c.propagate.ensures.same.clauses
-    c.deciding.invariant.settled in
-    record {
-      settled =
-          settled_assigned c.propagate.new.self c.assign.new.self c.in_ok-l-in-None.l c.choose.ensures.known c.assign.ensures.lits c.assign.ensures.others
-          c.assign.ensures.own c.assign.ensures.present c.assign.ensures.same.clauses
-          (λ k d live. c.in-None.ensures.settled k d (subst (λ cs. clause_at cs k ≡ Some d) c.propagate.ensures.same.clauses live)) settled;
-      same =
-          clauses_through c.args.trail.now c.propagate.new.self c.assign.new.self
-          (clauses_through c.args.trail.now c.deciding.trail c.propagate.new.self c.deciding.invariant.same c.propagate.ensures.same) c.assign.ensures.same;
-    }
+deciding-preserved c = record {
+  settled = λ was.
+      let settled =
+      settled_grown c.deciding.trail c.propagate.new.self c.propagate.ensures.grown c.propagate.ensures.present c.propagate.ensures.same.clauses
+      (c.deciding.invariant.settled was) in
+      settled_assigned c.propagate.new.self c.assign.new.self c.in_ok-l-in-None.l c.choose.ensures.known c.assign.ensures.lits c.assign.ensures.others
+      c.assign.ensures.own c.assign.ensures.present c.assign.ensures.same.clauses
+      (λ k d live. c.in-None.ensures.settled k d (subst (λ cs. clause_at cs k ≡ Some d) c.propagate.ensures.same.clauses live)) settled;
+  same =
+      clauses_through c.args.trail.now c.propagate.new.self c.assign.new.self
+      (clauses_through c.args.trail.now c.deciding.trail c.propagate.new.self c.deciding.invariant.same c.propagate.ensures.same) c.assign.ensures.same;
+}

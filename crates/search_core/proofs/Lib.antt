@@ -4,3 +4,4 @@ pub mod DescentLemmas
 pub mod IndexLemmas
 pub mod ForgettingLemmas
 pub mod TakingLemmas
+pub mod QuestionLemmas

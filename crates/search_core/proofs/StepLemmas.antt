@@ -152,28 +152,32 @@ reasoned_with log t is known knows present lits levels reasons indices p l v r i
     (subst (λ (ns : List ℕ). IsReasoned log t.present t.lits t.levels t.reasons ns) (sym i) reasoned))))
 
 -- the index at the number of a live clause, however it was read
-index_read : (log : LogValue) (s : Solving) → IsSolving log s → (k index : ℕ) (c : Lits) → clause_at s.trail.clauses k ≡ Some c
-    → index ≡ get_or s.indices k index → index ≡ get_or s.indices k 0
-index_read log s solving k index c live read =
-    let high = (number_within s.trail.clauses k c live).1 in
-    let size = solving.knows.size in get_or_read s.indices k index (omega arith) read 0
+index_read : (log : LogValue) (t : Assigned) (indices : List ℕ) → Knows log t indices → (k index : ℕ) (c : Lits) → clause_at t.clauses k ≡ Some c
+    → index ≡ get_or indices k index → index ≡ get_or indices k 0
+index_read log t indices knows k index c live read =
+    let high = (number_within t.clauses k c live).1 in
+    let size = knows.size in get_or_read indices k index (omega arith) read 0
 
 -- the clause in conflict is one of the log
+pub conflict_listed : (log : LogValue) (t : Assigned) (indices : List ℕ) → Knows log t indices → (k index : ℕ) (c : Lits) → clause_at t.clauses k ≡ Some c
+    → IsConflict t.lits c → index ≡ get_or indices k index → IsIndexOf log index × IsConflict t.lits (clause_of_log log index)
+conflict_listed log t indices knows k index c live all_false read =
+    let own = knows.known k c live in
+    let is = index_read log t indices knows k index c live read in (
+      subst (IsIndexOf log) (sym is) own.0,
+      subst (IsConflict t.lits) (sym (ap (λ i. clause_of_log log i) is ∙ own.1)) all_false,
+    )
+
 pub conflict_known : (log : LogValue) (s : Solving) → IsSolving log s → (k index : ℕ) (c : Lits) → clause_at s.trail.clauses k ≡ Some c → IsConflict s.trail.lits c
     → index ≡ get_or s.indices k index → IsIndexOf log index × IsConflict s.trail.lits (clause_of_log log index)
-conflict_known log s solving k index c live all_false read =
-    let own = solving.knows.known k c live in
-    let is = index_read log s solving k index c live read in (
-      subst (IsIndexOf log) (sym is) own.0,
-      subst (IsConflict s.trail.lits) (sym (ap (λ i. clause_of_log log i) is ∙ own.1)) all_false,
-    )
+conflict_known log s solving = conflict_listed log s.trail s.indices solving.knows
 
 -- it has a literal of the present level
 pub present_known : (log : LogValue) (s : Solving) → IsSolving log s → IsTrail s.trail → 1 ≤ s.trail.present → (k index : ℕ) (c : Lits)
     → clause_at s.trail.clauses k ≡ Some c → IsConflict s.trail.lits c → index ≡ get_or s.indices k index
     → (x : Literal) × Has (clause_of_log log index) x × (level_of s.trail x ≡ s.trail.present)
 present_known log s solving known high k index c live all_false read =
-    let is = index_read log s solving k index c live read in
+    let is = index_read log s.trail s.indices solving.knows k index c live read in
     let own = solving.knows.known k c live in
     let some = conflict_present s.trail known solving.settled high k c live all_false in
     (some.0, subst (λ (d : Lits). Has d some.0) (sym (ap (λ i. clause_of_log log i) is ∙ own.1)) some.1, some.2)

@@ -38,7 +38,10 @@ pub fn ask(search: &mut Search, literals: &[Lit], conflicts: u32, log: &mut Log)
             if is_refused(search, literals) {
                 return Answer::Never;
             }
-            assume_all(search, literals);
+            if !assume_each(search, literals) {
+                search.back_to_root();
+                assume_all(search, literals);
+            }
             assumed = search.trail().present();
         }
         match search.descend() {
@@ -67,12 +70,31 @@ fn is_refused(search: &mut Search, literals: &[Lit]) -> bool
     false
 }
 
-// Opens a level with each literal that has no value.
-fn assume_all(search: &mut Search, literals: &[Lit])
+// Opens a level with each literal that has no value, one after another with its consequences. False says
+// that those of earlier ones make a later one false.
+fn assume_each(search: &mut Search, literals: &[Lit]) -> bool
     requires { WithinVariables search.old.trail.variables literals.now }
     ensures moved { IsMoved search.old search.new }
 {
     for &l in literals {
+        search.propagate();
+        if search.trail().holds(l.negated()) {
+            return false;
+        }
         search.assume(l);
+    }
+    true
+}
+
+// Opens a level with each literal that has no value, the last one first, and without consequences: where
+// the first one's make the last one false, a clause is in conflict then.
+fn assume_all(search: &mut Search, literals: &[Lit])
+    requires { WithinVariables search.old.trail.variables literals.now }
+    ensures moved { IsMoved search.old search.new }
+{
+    let mut k = literals.len();
+    while k > 0 {
+        k -= 1;
+        search.assume(literals[k]);
     }
 }

@@ -7,6 +7,7 @@ use Rattle.clause_defs.specs.Literals.{Literal}
 use Rattle.clause_defs.specs.Clauses.{Lits, Has}
 use Rattle.log_defs.specs.Logs.{Derived, LogValue, words_of, Words, IsIndexOf, clause_of_log}
 use Rattle.log_defs.specs.Deriving.{with_derived}
+use Rattle.log_laws.proofs.LogLemmas.{extends_refl, extends_trans}
 use Rattle.conflict_analysis.proofs.WalkLemmas.{some_length}
 use Rattle.pch_region.specs.Blocks.{size, one}
 use Rattle.trail_defs.specs.Trails.{Assigned, clause_at, IsTrail, HasSameValues}
@@ -15,7 +16,7 @@ use Rattle.search_defs.specs.Solving.{Solving, Knows, IsLive, IsSolving, HasLear
 use Rattle.search_defs.proofs.LearnLemmas.{old_clause, old_index, new_clause, new_index, which_index, none_empty_after}
 use Rattle.search_defs.proofs.OwedLemmas.{owed_learned, forgotten_learned}
 use Rattle.search_defs.proofs.PutLemmas.{places_stay, words_more, blocks_more, live_new, live_other, knows_put}
-use Rattle.sweep_defs.specs.Sweeping.{last_index, IsGrounded, IsSweeping, IsMoved}
+use Rattle.sweep_defs.specs.Sweeping.{last_index, IsGrounded, IsSweeping, IsMoved, HasDerivedMore}
 
 -- the last clause has an index
 pub last_there : (log : LogValue) → 1 ≤ last_index log → IsIndexOf log (last_index log)
@@ -169,3 +170,21 @@ module _ (log : LogValue) (s : Solving) (h : IsSweeping log s) (c : Lits) (b j :
         settled = λ k d live a n less front. absurd (let up = learned.values.present in let here = learned.present in omega arith);
         none_empty = h.grounded.none_empty;
       }
+
+-- ---- clauses are derived
+
+-- none yet
+pub none_more : (log : LogValue) (s t : Solving) → IsSweeping log s → t.limit ≡ s.limit → HasDerivedMore log s log t
+none_more log s t h limit = record {
+  log = extends_refl log;
+  limit = limit;
+  words = h.grounded.spent;
+}
+
+-- and more of them
+pub more_through : (log later last : LogValue) (s t r : Solving) → HasDerivedMore log s later t → HasDerivedMore later t last r → HasDerivedMore log s last r
+more_through log later last s t r first second = record {
+  log = extends_trans log later last first.log second.log;
+  limit = second.limit ∙ first.limit;
+  words = let words = second.words in let same = first.limit in omega arith;
+}

@@ -1,5 +1,5 @@
 use Rattle.std.proofs.Common.{◌≡◌, ◌≢◌, ◌-◌, length, get_or, refl, ap, sym, ◌∙◌, subst, arith}
-use Rattle.clause_defs.specs.Literals.{Literal, negation}
+use Rattle.clause_defs.specs.Literals.{Literal}
 use Rattle.clause_defs.specs.Clauses.{Has}
 use Rattle.log_defs.specs.Logs.{clause_of_log}
 use Rattle.trail_defs.specs.Assignments.{IsAt}

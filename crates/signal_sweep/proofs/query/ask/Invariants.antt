@@ -1,0 +1,11 @@
+use Rattle.std.proofs.Common.{◌≡◌}
+use Rattle.sweep_defs.specs.Sweeping.{IsSweeping, HasDerivedMore}
+use Rattle.signal_sweep.proofs.query.ask.Given as goal
+
+-- the sweep goes on
+abbrev pub invariant-loop-x : goal.invariant-loop-x
+invariant-loop-x l = record {
+  sweeping : IsSweeping l.log l.search;
+  more : HasDerivedMore l.fn.log l.fn.search l.log l.search;
+  variables : l.search.trail.variables ≡ l.fn.search.trail.variables;
+}

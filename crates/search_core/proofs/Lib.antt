@@ -5,3 +5,4 @@ pub mod IndexLemmas
 pub mod ForgettingLemmas
 pub mod TakingLemmas
 pub mod QuestionLemmas
+pub mod BeginLemmas

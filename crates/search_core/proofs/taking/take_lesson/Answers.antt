@@ -1,4 +1,4 @@
-use Rattle.std.proofs.Common.{◌≡◌, ◌≢◌, ◌++◌, ◌∷◌, List, [], sym, ap, ◌∙◌, subst, arith}
+use Rattle.std.proofs.Common.{◌≡◌, nat_eq, length, true≢false, ◌≢◌, ◌++◌, ◌∷◌, List, [], sym, ap, ◌∙◌, subst, arith}
 use Rattle.clause_defs.specs.Clauses.{Lits}
 use Rattle.search_defs.specs.declared.standing.Standing.{Standing}
 use Rattle.search_defs.specs.Solving.{Solving}
@@ -17,7 +17,8 @@ returns-else-is_empty-clause-ends c =
       standings = c.args.standings.now.items;
     } in
     let lits = c.args.lesson.now.lits in
-    let some : lits ≢ [] = λ e. c.if-is_empty.false (c.is_empty.ensures.1 (c.lits.ensures ∙ e)) in
+    let some : lits ≢ [] = 
+    λ e. true≢false (sym (c.is_empty.ensures ∙ ap (λ (ls : Lits). nat_eq (length ls) 0) (c.lits.ensures ∙ e)) ∙ c.if-is_empty.false) in
     let u = some_literal lits some in
     subst
     (λ (ss : List Standing). IsSweeping c.derive.new.log (record { limit = c.args.limit; trail = c.put.new.trail; indices = c.put.new.indices.items; standings = ss }))

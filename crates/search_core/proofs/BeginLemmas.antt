@@ -1,0 +1,46 @@
+-- A search begins, and gives its last clause up.
+use Rattle.std.proofs.Common.{◌≡◌, ◌≢◌, ℕ, zero, suc, ◌+◌, ◌-◌, ◌<◌, ◌≤◌, List, [], ◌∷◌, length, set, get_or, Option, Some, None, inl, inr, refl, sym, ap, ◌∙◌, subst, arith}
+use Rattle.std.proofs.lemmas.List.{get_or_read}
+use Rattle.std.proofs.lemmas.List.Sums.{sum_by-cons}
+use Rattle.clause_defs.specs.Clauses.{Lits, Has, WithinVariables}
+use Rattle.log_defs.specs.Logs.{Derived, LogValue, Words, words_of, IsIndexOf, clause_of_log}
+use Rattle.log_laws.proofs.LogLemmas.{clause_with-original}
+use Rattle.trail_defs.specs.Trails.{Assigned, clause_at, HasSameValues}
+use Rattle.search_defs.specs.Solving.{Solving, IsSolving}
+use Rattle.search_defs.proofs.ReasonLemmas.{number_within}
+use Rattle.sweep_defs.specs.Sweeping.{last_index, IsSweeping}
+use Rattle.sweep_defs.proofs.BeginLemmas.{sweeping_parted}
+
+-- a log that has no words has no derived clause
+pub none_spent : (ds : List Derived) → Words ds ≡ 0 → ds ≡ []
+none_spent [] e = refl
+none_spent (d ∷ ds) e = absurd (omega (arith, sum_by-cons words_of d ds))
+
+-- the clause of a number is live
+live_some : (o : Option Lits) → o ≢ None → (c : Lits) × (o ≡ Some c)
+live_some None some = absurd (some refl)
+live_some (Some c) some = (c, refl)
+
+-- the search gave up the clause of a number, whose index is the last original's
+pub parted : (log : LogValue) (s : Solving) (k : ℕ) (now : Assigned) → IsSolving log s → 1 ≤ last_index log → clause_at s.trail.clauses k ≢ None
+    → get_or s.indices k 0 ≡ last_index log → now.clauses ≡ set s.trail.clauses (k - 1) None → HasSameValues s.trail now → log.derived ≡ []
+    → IsSweeping log (record { limit = s.limit; trail = now; indices = s.indices; standings = s.standings })
+parted log s zero now solving some live index clauses values nothing = absurd (live refl)
+parted log s (suc j) now solving some live index clauses values nothing =
+    let own = live_some (get_or s.trail.clauses j None) live in
+    let place : suc j - 1 ≡ j = omega arith in
+    sweeping_parted log s j own.0 now solving some own.1 index (clauses ∙ ap (λ n. set s.trail.clauses n None) place) values nothing
+
+-- a clause of a list that is read there is a member
+pub member_at : (f : List Lits) (k : ℕ) → k < length f → Has f (get_or f k [])
+member_at [] k lt = absurd (omega arith)
+member_at (c ∷ cs) zero lt = inl refl
+member_at (c ∷ cs) (suc k) lt = inr (member_at cs k (omega arith))
+
+-- the last original is over the formula's variables
+pub last_within : (log : LogValue) → 1 ≤ last_index log → ((c : Lits) → Has log.originals.clauses c → WithinVariables log.originals.variables c)
+    → WithinVariables log.originals.variables (clause_of_log log (last_index log))
+last_within log some within =
+    let n = last_index log in
+    subst (WithinVariables log.originals.variables) (sym (clause_with-original log.originals.clauses log.derived n some (omega arith)))
+    (within (get_or log.originals.clauses (n - 1) []) (member_at log.originals.clauses (n - 1) (omega arith)))

@@ -1,4 +1,4 @@
-ghost use Rattle.std.specs.Prelude.{◌≡◌, ℕ, ◌+◌, ◌<◌, ◌≤◌, List, [], length, IfOk};
+ghost use Rattle.std.specs.Prelude.{◌≡◌, ℕ, ◌+◌, ◌<◌, ◌≤◌, List, [], length, IfOk, ◌↔◌, IsTrue};
 ghost use Rattle.clause_defs.specs.Literals.{Literal};
 ghost use Rattle.clause_defs.specs.Clauses.{Lits, Has, IsClause, WithinVariables};
 ghost use Rattle.clause_defs.specs.declared.verdict.TheConstants.{MAX_VARIABLE};
@@ -6,11 +6,13 @@ ghost use Rattle.log_defs.specs.Logs.{Words, IsIndexOf, clause_of_log};
 ghost use Rattle.log_defs.specs.Deriving.{IsNew};
 ghost use Rattle.trail_defs.specs.Assignments.{IsConflict};
 ghost use Rattle.conflict_analysis.specs.Analyses.{level_in, IsReasoned, IsAsserting, IsLesson};
+ghost use Rattle.conflict_decisions.specs.Decisions.{AreDecided};
 ghost use Rattle.conflict_lesson.specs.Lessons.{LessonEnds};
 
 use clause_defs::MAX_VARIABLE;
 use conflict_analysis::{analyze, refute};
 use conflict_chain::ConflictChain;
+use conflict_decisions::analyze_decisions;
 use decision_order::DecisionOrder;
 use log_defs::LogEnd;
 use pch_base::{Lit, NoMemory, literals_are_within_limits};
@@ -119,6 +121,45 @@ impl Lesson {
     {
         refute(log, trail, levels, reasons, indices, index, &mut self.chain);
         self.lits.clear();
+    }
+
+    /// Learns the clause of decided literals alone from the conflict of the clause with this index.
+    pub fn analyze_decisions(
+        &mut self,
+        log: &Log,
+        present: u32,
+        trail: &[Lit],
+        levels: &[u32],
+        reasons: &[u32],
+        indices: &[u32],
+        index: u32,
+    )
+        requires reasoned { IsReasoned log.now present trail.now levels.now reasons.now indices.now }
+        requires index { IsIndexOf log.now index }
+        requires conflict { IsConflict trail.now (clause_of_log log.now index) }
+        requires room { self.old.variables ≡ log.now.originals.variables }
+        ensures variables { self.new.variables ≡ self.old.variables }
+        ensures lesson { IsLesson log.now trail.now levels.now self.new.antecedents self.new.lits }
+        ensures decided { AreDecided reasons.now self.new.lits }
+    {
+        analyze_decisions(
+            log,
+            present,
+            trail,
+            levels,
+            reasons,
+            indices,
+            index,
+            &mut self.chain,
+            &mut self.lits,
+        );
+    }
+
+    /// Whether it follows from one clause alone: then it is that clause.
+    pub fn is_known(&self) -> bool
+        ensures { IsTrue result ↔ (length self.now.antecedents ≡ 1) }
+    {
+        self.chain.antecedents().len() == 1
     }
 
     /// The clause's literals, in their order.

@@ -14,6 +14,10 @@ pub struct DecisionOrder {
     activities: Vec<u64>,
     // The last value of each variable.
     phases: Vec<bool>,
+    // For each variable the conflict that it met last, by its number.
+    met: Vec<u64>,
+    // The number of the present conflict.
+    conflict: u64,
     // What a variable's activity grows by.
     step: u64,
 }
@@ -25,7 +29,8 @@ impl Model for DecisionOrder {
 
     ghost view = { λ o. length o.activities.items };
 
-    ghost invariant = { λ o. length o.phases.items ≡ length o.activities.items };
+    ghost invariant = { λ o. (length o.phases.items ≡ length o.activities.items)
+        × (length o.met.items ≡ length o.activities.items) };
 }
 
 // The first step. Later ones grow by a sixteenth with each conflict, so that what is lately met counts
@@ -48,16 +53,22 @@ impl DecisionOrder {
         Ok(DecisionOrder {
             activities: vec![in alloc; 0u64; places]?,
             phases: vec![in alloc; false; places]?,
+            met: vec![in alloc; 0u64; places]?,
+            conflict: 1,
             step: FIRST_STEP,
         })
     }
 
-    /// The variable met a conflict.
+    /// The variable met the present conflict, which counts once.
     pub fn bump(&mut self, variable: u32)
         requires { variable < self.old }
         ensures { self.new ≡ self.old }
     {
         let place = variable as usize;
+        if self.met[place] == self.conflict {
+            return;
+        }
+        self.met[place] = self.conflict;
         self.activities[place] = self.activities[place].saturating_add(self.step);
     }
 
@@ -79,6 +90,7 @@ impl DecisionOrder {
     pub fn step(&mut self)
         ensures { self.new ≡ self.old }
     {
+        self.conflict = self.conflict.saturating_add(1);
         self.step = self.step.saturating_add(self.step / 16);
         if self.step > GREATEST_STEP {
             self.step >>= SCALE;

@@ -12,10 +12,10 @@ use Rattle.search_defs.specs.Solving.{Solving, owed_words, forgotten_of, IsSolvi
 use Rattle.search_defs.proofs.ReasonLemmas.{number_within}
 
 -- clauses that are live, and then places without one
-abbrev opened : List Lits → ℕ → List (Option Lits)
+abbrev pub opened : List Lits → ℕ → List (Option Lits)
 opened cs n = map Some cs ++ replicate n None
 
-length-opened : (cs : List Lits) (n : ℕ) → length (opened cs n) ≡ length cs + n
+pub length-opened : (cs : List Lits) (n : ℕ) → length (opened cs n) ≡ length cs + n
 length-opened cs n =
     let a = length-append (map Some cs) (replicate n None) in
     let b = length-map cs Some in
@@ -39,16 +39,16 @@ sum_none : (f : Option Lits → ℕ) → f None ≡ 0 → (n : ℕ) → sum_by f
 sum_none f none zero = refl
 sum_none f none (suc n) = omega (arith, sum_by-cons f None (replicate n None), sum_none f none n, none)
 
-words_opened : (cs : List Lits) (n : ℕ) → sum_by size (opened cs n) ≡ sum_by length cs
+pub words_opened : (cs : List Lits) (n : ℕ) → sum_by size (opened cs n) ≡ sum_by length cs
 words_opened [] n = sum_none size refl n
 words_opened (c ∷ cs) n = omega (arith, sum_by-cons size (Some c) (opened cs n), sum_by-cons length c cs, words_opened cs n)
 
-blocks_opened : (cs : List Lits) (n : ℕ) → sum_by one (opened cs n) ≡ length cs
+pub blocks_opened : (cs : List Lits) (n : ℕ) → sum_by one (opened cs n) ≡ length cs
 blocks_opened [] n = sum_none one refl n
 blocks_opened (c ∷ cs) n = omega (arith, sum_by-cons one (Some c) (opened cs n), blocks_opened cs n)
 
 -- what is live is a clause of the list
-live_clause : (cs : List Lits) (n k : ℕ) (c : Lits) → clause_at (opened cs n) k ≡ Some c
+pub live_clause : (cs : List Lits) (n k : ℕ) (c : Lits) → clause_at (opened cs n) k ≡ Some c
     → (1 ≤ k) × (k ≤ length cs) × (get_or cs (k - 1) [] ≡ c)
 live_clause cs n zero c e = absurd (cc)
 live_clause cs n (suc i) c e = elim (cases_lt i (length cs)) [
@@ -61,7 +61,7 @@ live_clause cs n (suc i) c e = elim (cases_lt i (length cs)) [
 ]
 
 -- and each clause of the list is live under its number
-clause_live : (cs : List Lits) (n k : ℕ) → 1 ≤ k → k ≤ length cs → clause_at (opened cs n) k ≡ Some (get_or cs (k - 1) [])
+pub clause_live : (cs : List Lits) (n k : ℕ) → 1 ≤ k → k ≤ length cs → clause_at (opened cs n) k ≡ Some (get_or cs (k - 1) [])
 clause_live cs n zero low high = absurd (omega arith)
 clause_live cs n (suc i) low high =
     let place : suc i - 1 ≡ i = omega arith in at_clause cs n i (omega arith) ∙ ap (λ m. Some (get_or cs m [])) (sym place)

@@ -27,7 +27,7 @@ all_satisfied t known total k c live (inr two) =
     absurd (none_free t total two.0 (clause.0.literals two.0 here.0).0 (clause.1 two.0 here.0) here.1)
 
 -- a clause of a list has a number
-has_number : (f : List Lits) (c : Lits) → Has f c → (k : ℕ) × (k < length f) × (get_or f k [] ≡ c)
+pub has_number : (f : List Lits) (c : Lits) → Has f c → (k : ℕ) × (k < length f) × (get_or f k [] ≡ c)
 has_number [] c h = absurd h
 has_number (d ∷ ds) c (inl e) = (0, omega arith, e)
 has_number (d ∷ ds) c (inr h) = let rest = has_number ds c h in (suc rest.0, let lt = rest.1 in omega arith, rest.2)

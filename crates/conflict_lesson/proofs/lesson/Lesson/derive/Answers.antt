@@ -21,6 +21,6 @@ returns-in-None-clause-end c =
     let need : 3 + c.len.result + length c.antecedents-antecedents.result.now ≡ 3 + length own.lits + length own.antecedents = omega arith in (
       λ index derived. c.in-None.ensures.none index (subst (λ (ls : Lits). HasDerived c.args.log.now ls index) (sym lits) derived),
       spent_of c.args.log.now lesson.0 lesson.1 own.antecedents own.lits lesson.2 c.args.limit c.used-used.result
-      (3 + c.len.result + length c.antecedents-antecedents.result.now) c.requires.none_empty c.used-used.ensures.used need (omega arith),
+          (3 + c.len.result + length c.antecedents-antecedents.result.now) c.requires.none_empty c.used-used.ensures.used need (omega arith),
       refl,
     )

@@ -25,7 +25,7 @@ use Rattle.conflict_lesson.proofs.SpentLemmas.{words_taken}
 use Rattle.search_core.specs.Steps.{IsPut}
 
 -- the search went back to a level, and then the clause was put into the trail
-learned_of : (b : ℕ) (c : Lits) (index : ℕ) (t back : Assigned) (indices : List ℕ) (now : Assigned) (indices_now : List ℕ)
+pub learned_of : (b : ℕ) (c : Lits) (index : ℕ) (t back : Assigned) (indices : List ℕ) (now : Assigned) (indices_now : List ℕ)
     → IsUpTo b t back → back.levels ≡ t.levels → back.present ≡ b → HasSameClauses t back
     → (put : IsPut c index back indices now indices_now) → HasLearned b c t put.place now
 learned_of b c index t back indices now indices_now up levels present same put = record {

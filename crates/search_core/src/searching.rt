@@ -392,6 +392,7 @@ impl Search {
             &self.indices,
             index,
         );
+        let _variables = log.originals().variables();
         self.lesson.bump(log, &mut self.order);
         let second = second_level(self.trail.levels(), level, self.lesson.lits());
         // Below the last level that is assumed nothing was drawn from what is.

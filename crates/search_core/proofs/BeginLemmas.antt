@@ -25,14 +25,15 @@ live_some None some = absurd (some refl)
 live_some (Some c) some = (c, refl)
 
 -- the search gave up the clause of a number, whose index is the last original's
-pub parted : (log : LogValue) (s : Solving) (k : ℕ) (now : Assigned) → IsSolving log s → 1 ≤ last_index log → clause_at s.trail.clauses k ≢ None
+pub parted : (log : LogValue) (s : Solving) (k : ℕ) (now : Assigned) → IsSolving log s → clause_at s.trail.clauses k ≢ None
     → get_or s.indices k 0 ≡ last_index log → now.clauses ≡ set s.trail.clauses (k - 1) None → HasSameValues s.trail now → log.derived ≡ []
     → IsSweeping log (record { limit = s.limit; trail = now; indices = s.indices; standings = s.standings })
-parted log s zero now solving some live index clauses values nothing = absurd (live refl)
-parted log s (suc j) now solving some live index clauses values nothing =
+parted log s zero now solving live index clauses values nothing = absurd (live refl)
+parted log s (suc j) now solving live index clauses values nothing =
     let own = live_some (get_or s.trail.clauses j None) live in
     let place : suc j - 1 ≡ j = omega arith in
-    sweeping_parted log s j own.0 now solving some own.1 index (clauses ∙ ap (λ n. set s.trail.clauses n None) place) values nothing
+    let low = (solving.knows.known (suc j) own.0 own.1).0.low in
+    sweeping_parted log s j own.0 now solving (omega arith) own.1 index (clauses ∙ ap (λ n. set s.trail.clauses n None) place) values nothing
 
 -- a clause of a list that is read there is a member
 pub member_at : (f : List Lits) (k : ℕ) → k < length f → Has f (get_or f k [])

@@ -1,10 +1,11 @@
-use Rattle.std.proofs.Common.{◌≡◌, ◌+◌, ◌-◌, ◌/◌, length, take, ap, ◌∙◌, subst, arith}
+use Rattle.std.proofs.Common.{◌≡◌, ◌+◌, ◌-◌, ◌/◌, length, List, take, sym, ap, ◌∙◌, subst, arith}
 use Rattle.clause_defs.specs.Clauses.{Lits}
 use Rattle.clause_defs.specs.Formulas.{Formula}
 use Rattle.log_defs.specs.Logs.{clause_of_log}
 use Rattle.proof_log.proofs.KeptLemmas.{few_literals}
 use Rattle.trail_defs.specs.Trails.{IsOpened}
-use Rattle.sweep_defs.specs.Sweeping.{last_index}
+use Rattle.search_defs.specs.declared.standing.Standing.{Standing}
+use Rattle.sweep_defs.specs.Sweeping.{last_index, IsSweeping}
 use Rattle.sweep_defs.proofs.BeginLemmas.{sweeping_opened}
 use Rattle.search_core.proofs.searching.Search.open_front.Goals as goal
 
@@ -30,11 +31,14 @@ returns-clause-sweeping c =
     ap (λ (ls : Lits). length ls) c.clause-last.ensures.lits ∙ ap (λ n. length (clause_of_log log n)) count in
     let size = c.in_ok-own_indices.ensures.size in
     let some = c.requires.some in
-    sweeping_opened log limit c.in_ok-open_front.field-0 c.in_ok-own_indices.field-0.items c.requires.nothing c.requires.limit some
+    subst
+    (λ (ss : List Standing). IsSweeping log (record { limit = limit; trail = c.in_ok-open_front.field-0; indices = c.in_ok-own_indices.field-0.items; standings = ss }))
+    (sym c.in_ok-with_capacity.ensures.items)
+    (sweeping_opened log limit c.in_ok-open_front.field-0 c.in_ok-own_indices.field-0.items c.requires.nothing c.requires.limit some
     (subst (λ n. IsOpened log.originals.variables (take (last_index log - 1) log.originals.clauses) (limit + n) (limit / 4 + 1) c.in_ok-open_front.field-0) last
     (subst
     (λ n. IsOpened log.originals.variables (take (n - 1) log.originals.clauses) (limit + length c.clause-last.result.now) (limit / 4 + 1) c.in_ok-open_front.field-0)
     count
     (subst
     (λ (f : Formula). IsOpened f.variables (take (c.len-count.result - 1) f.clauses) (limit + length c.clause-last.result.now) (limit / 4 + 1) c.in_ok-open_front.field-0)
-    c.originals-set.ensures.originals c.in_ok-open_front.ensures.opened))) (omega arith) (λ k low. c.in_ok-own_indices.ensures.own k (omega arith))
+    c.originals-set.ensures.originals c.in_ok-open_front.ensures.opened))) (omega arith) (λ k low. c.in_ok-own_indices.ensures.own k (omega arith)))

@@ -1,6 +1,8 @@
-use Rattle.std.proofs.Common.{◌≡◌, ◌+◌, ◌/◌, length, ap, ◌∙◌, subst, arith}
+use Rattle.std.proofs.Common.{◌≡◌, ◌+◌, ◌/◌, List, length, sym, ap, ◌∙◌, subst, arith}
 use Rattle.clause_defs.specs.Formulas.{Formula}
 use Rattle.trail_defs.specs.Trails.{IsOpened}
+use Rattle.search_defs.specs.declared.standing.Standing.{Standing}
+use Rattle.search_defs.specs.Solving.{IsSolving}
 use Rattle.search_defs.proofs.OpenLemmas.{solving_opened}
 use Rattle.search_core.proofs.searching.Search.open_whole.Goals as goal
 
@@ -12,6 +14,9 @@ returns-clause-solving c nothing =
     let count : c.len.result ≡ length log.originals.clauses =
     c.len.ensures.len ∙ ap (λ (f : Formula). length f.clauses) c.originals-set.ensures.originals in
     let size = c.in_ok-own_indices.ensures.size in
-    solving_opened log limit c.in_ok-open.field-0 c.in_ok-own_indices.field-0.items nothing c.requires
+    subst
+    (λ (ss : List Standing). IsSolving log (record { limit = limit; trail = c.in_ok-open.field-0; indices = c.in_ok-own_indices.field-0.items; standings = ss }))
+    (sym c.in_ok-with_capacity.ensures.items)
+    (solving_opened log limit c.in_ok-open.field-0 c.in_ok-own_indices.field-0.items nothing c.requires
     (subst (λ (f : Formula). IsOpened f.variables f.clauses limit (limit / 4) c.in_ok-open.field-0) c.originals-set.ensures.originals
-    c.in_ok-open.ensures.opened) (omega arith) (λ k low. c.in_ok-own_indices.ensures.own k (omega arith))
+    c.in_ok-open.ensures.opened) (omega arith) (λ k low. c.in_ok-own_indices.ensures.own k (omega arith)))

@@ -6,7 +6,7 @@ use Rattle.search_core.proofs.searching.Search.part.Goals as goal
 
 -- without its last clause it is a sweep
 pub returns-clause-sweeping : goal.returns-clause-sweeping
-returns-clause-sweeping c yes =
+returns-clause-sweeping c told =
     let s : Solving = record {
       limit = c.self.inside.limit;
       trail = c.self.inside.trail;
@@ -14,4 +14,4 @@ returns-clause-sweeping c yes =
       standings = c.self.inside.standings.items;
     } in
     parted c.args.log.now s c.self.inside.last c.forget.new.self (subst (IsSolving c.args.log.now) (sym c.self.view_is) c.requires.solving)
-    ? (c.is_live.ensures.live.0 c.if-not-is_live.false) ? c.forget.ensures.clauses c.forget.ensures.values c.requires.nothing
+    (c.is_live.ensures.live.0 c.if-not-is_live.false) ? c.forget.ensures.clauses c.forget.ensures.values c.requires.nothing

@@ -12,7 +12,7 @@ use Rattle.sweep_defs.specs.Sweeping.{last_index, IsSweeping}
 use Rattle.sweep_defs.proofs.BeginLemmas.{sweeping_parted}
 use Rattle.sweep_defs.proofs.SweepLemmas.{solving_joined}
 use Rattle.search_core.specs.Steps.{IsPut}
-use Rattle.search_core.proofs.StepLemmas.{learned_of}
+use Rattle.search_core.proofs.StepLemmas.{index_read, learned_of}
 
 -- a log that has no words has no derived clause
 pub none_spent : (ds : List Derived) → Words ds ≡ 0 → ds ≡ []
@@ -26,14 +26,15 @@ live_some (Some c) some = (c, refl)
 
 -- the search gave up the clause of a number, whose index is the last original's
 pub parted : (log : LogValue) (s : Solving) (k : ℕ) (now : Assigned) → IsSolving log s → clause_at s.trail.clauses k ≢ None
-    → get_or s.indices k 0 ≡ last_index log → now.clauses ≡ set s.trail.clauses (k - 1) None → HasSameValues s.trail now → log.derived ≡ []
+    → (index : ℕ) → index ≡ get_or s.indices k index → index ≡ last_index log → now.clauses ≡ set s.trail.clauses (k - 1) None → HasSameValues s.trail now → log.derived ≡ []
     → IsSweeping log (record { limit = s.limit; trail = now; indices = s.indices; standings = s.standings })
-parted log s zero now solving live index clauses values nothing = absurd (live refl)
-parted log s (suc j) now solving live index clauses values nothing =
+parted log s zero now solving live index read is clauses values nothing = absurd (live refl)
+parted log s (suc j) now solving live index read is clauses values nothing =
     let own = live_some (get_or s.trail.clauses j None) live in
     let place : suc j - 1 ≡ j = omega arith in
+    let index_is = sym (index_read log s.trail s.indices solving.knows (suc j) index own.0 own.1 read) ∙ is in
     let low = (solving.knows.known (suc j) own.0 own.1).0.low in
-    sweeping_parted log s j own.0 now solving (omega arith) own.1 index (clauses ∙ ap (λ n. set s.trail.clauses n None) place) values nothing
+    sweeping_parted log s j own.0 now solving (omega arith) own.1 index_is (clauses ∙ ap (λ n. set s.trail.clauses n None) place) values nothing
 
 -- a clause of a list that is read there is a member
 pub member_at : (f : List Lits) (k : ℕ) → k < length f → Has f (get_or f k [])

@@ -152,7 +152,7 @@ reasoned_with log t is known knows present lits levels reasons indices p l v r i
     (subst (λ (ns : List ℕ). IsReasoned log t.present t.lits t.levels t.reasons ns) (sym i) reasoned))))
 
 -- the index at the number of a live clause, however it was read
-index_read : (log : LogValue) (t : Assigned) (indices : List ℕ) → Knows log t indices → (k index : ℕ) (c : Lits) → clause_at t.clauses k ≡ Some c
+pub index_read : (log : LogValue) (t : Assigned) (indices : List ℕ) → Knows log t indices → (k index : ℕ) (c : Lits) → clause_at t.clauses k ≡ Some c
     → index ≡ get_or indices k index → index ≡ get_or indices k 0
 index_read log t indices knows k index c live read =
     let high = (number_within t.clauses k c live).1 in

@@ -14,4 +14,5 @@ returns-clause-sweeping c told =
       standings = c.self.inside.standings.items;
     } in
     parted c.args.log.now s c.self.inside.last c.forget.new.self (subst (IsSolving c.args.log.now) (sym c.self.view_is) c.requires.solving)
-    (c.is_live.ensures.live.0 c.if-not-is_live.false) ? c.forget.ensures.clauses c.forget.ensures.values c.requires.nothing
+    (c.is_live.ensures.live.0 c.if-not-is_live.false) c.index.result.now c.index.ensures
+    (c.if-index-len.false ∙ c.len-2.ensures.len ∙ ap (λ (f : Formula). length f.clauses) c.originals.ensures.originals) c.forget.ensures.clauses c.forget.ensures.values c.requires.nothing

@@ -17,7 +17,7 @@ returns-else-is_empty-clause-ends c =
       standings = c.args.standings.now.items;
     } in
     let lits = c.args.lesson.now.lits in
-    let some : lits ≢ [] = 
+    let some : lits ≢ [] =
     λ e. true≢false (sym (c.is_empty.ensures ∙ ap (λ (ls : Lits). nat_eq (length ls) 0) (c.lits.ensures ∙ e)) ∙ c.if-is_empty.false) in
     let u = some_literal lits some in
     subst

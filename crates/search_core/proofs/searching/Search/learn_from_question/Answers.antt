@@ -47,7 +47,7 @@ clause-requires c =
 
 -- each of its literals has a level
 pub top_level-level-requires : goal.top_level-level-requires
-top_level-level-requires c l h =
+top_level-level-requires c =
     let log = c.args.log.now in
     let s : Solving = record {
       limit = c.self.inside.limit;
@@ -60,8 +60,11 @@ top_level-level-requires c l h =
     subst (λ (v : Solving). (d : Lits) × (clause_at v.trail.clauses c.args.number ≡ Some d) × IsConflict v.trail.lits d) (sym c.self.view_is) c.requires.conflict in
     let index = c.index-index.result.now in
     let listed = conflict_listed log s.trail s.indices sweeping.grounded.knows c.args.number index conflict.0 conflict.1 conflict.2 c.index-index.ensures in
-    let within = false_within s.trail c.levels.ensures.known (clause_of_log log index) listed.1 l (subst (λ (ls : Lits). Has ls l) c.clause.ensures.lits h) in
-    let size = c.levels.ensures.size in omega arith
+    record {
+      levels = λ l h.
+          let within = false_within s.trail c.levels.ensures.known (clause_of_log log index) listed.1 l (subst (λ (ls : Lits). Has ls l) c.clause.ensures.lits h) in
+          let size = c.levels.ensures.size in omega arith;
+    }
 
 -- none above the present one
 pub back_to-requires-clause-level : goal.back_to-requires-clause-level

@@ -14,10 +14,10 @@ use proof_log::Log;
 use sat_trail::Trail;
 use search_core::{CdclEnd, Search};
 
-// How many simulations sort the variables. With 16 the words were 1 % more, and with 256 1 % less in half
-// as much time again.
+// How many simulations sort the variables. Over 631 real pairs a plain solver by the same recipe took 1 %
+// more words with 16, and 1 % fewer with 256, in half as much time again; not measured with this one.
 const SIMULATIONS: u32 = 64;
-// How many conflicts a question may meet. With 20 and with 1,000 the words were 7 % more.
+// How many conflicts a question may meet. That solver took 7 % more words with 20, and with 1,000.
 const CONFLICTS: u32 = 100;
 // How many questions of a variable may stay open.
 const OPEN: u32 = 2;

@@ -1,11 +1,11 @@
 -- What the search keeps after a conflict.
-use Rattle.std.proofs.Common.{◌≡◌, ℕ, suc, ◌+◌, ◌*◌, ◌<◌, ◌≤◌, List, [], ◌∷◌, ◌++◌, length, set, get_or, sum_by, Option, Some, None, refl, sym, ap, ◌∙◌, subst, arith, length-append}
+use Rattle.std.proofs.Common.{◌≡◌, ℕ, suc, ◌+◌, ◌*◌, ◌<◌, ◌≤◌, List, [], ◌∷◌, ◌++◌, length, set, get_or, sum_by, Some, refl, sym, ap, ◌∙◌, subst, arith, length-append}
 use Rattle.std.proofs.lemmas.List.{get_or_read}
 use Rattle.clause_defs.specs.Literals.{Literal}
 use Rattle.clause_defs.specs.Clauses.{Lits, Has, SameSet}
 use Rattle.clause_laws.proofs.ClauseLemmas.{same_refl}
-use Rattle.log_defs.specs.Logs.{Derived, LogValue, Words, HasDerived, IsIndexOf, Extends, clause_of_log}
-use Rattle.log_defs.specs.Deriving.{IsTaken, with_derived}
+use Rattle.log_defs.specs.Logs.{Derived, LogValue, Words, IsIndexOf, Extends, clause_of_log}
+use Rattle.log_defs.specs.Deriving.{IsTaken}
 use Rattle.conflict_analysis.proofs.WalkLemmas.{some_length}
 use Rattle.pch_region.specs.Blocks.{size, one}
 use Rattle.trail_defs.specs.Assignments.{IsConflict}

@@ -1,4 +1,4 @@
-use Rattle.std.proofs.Common.{◌+◌, Some, sym, subst, arith}
+use Rattle.std.proofs.Common.{◌+◌, sym, subst, arith}
 use Rattle.cdcl_log.specs.Steps.{IsBest}
 use Rattle.cdcl_log.proofs.DescentLemmas.{best_kept, best_found}
 use Rattle.cdcl_log.proofs.descent.choose.Goals as goal

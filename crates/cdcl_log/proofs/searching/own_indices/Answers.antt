@@ -1,4 +1,4 @@
-use Rattle.std.proofs.Common.{◌≡◌, ◌+◌, length, ap, ◌∙◌, arith, length-set}
+use Rattle.std.proofs.Common.{◌+◌, length, ap, ◌∙◌, arith, length-set}
 use Rattle.std.proofs.lemmas.List.{length-replicate}
 use Rattle.cdcl_log.proofs.IndexLemmas.{own_start, own_more}
 use Rattle.cdcl_log.proofs.searching.own_indices.Goals as goal

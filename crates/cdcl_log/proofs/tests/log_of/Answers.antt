@@ -12,6 +12,6 @@ loop-k-preserved c d has =
     elim (Has-take_next list k here d (slice_get_within list k here c.clause.ensures.lits) has) [
       | inl old ↦ c.loop-k.invariant d old
       | inr e ↦
-          subst (WithinVariables 3) (sym (get_or_from_slice_get list k here here c.clause.ensures.lits) ∙ e)
+          subst (WithinVariables c.args.variables) (sym (get_or_from_slice_get list k here here c.clause.ensures.lits) ∙ e)
           (c.is_narrow.ensures c.if-not-is_narrow.false)
     ]

@@ -1,4 +1,4 @@
-use Rattle.std.proofs.Common.{List, sym, ◌≡◌, ◌+◌, ◌/◌, length, ap, ◌∙◌, subst, arith}
+use Rattle.std.proofs.Common.{List, sym, ◌≡◌, ◌/◌, length, ap, ◌∙◌, subst, arith}
 use Rattle.clause_defs.specs.Formulas.{Formula}
 use Rattle.trail_defs.specs.Trails.{IsOpened}
 use Rattle.search_defs.specs.declared.standing.Standing.{Standing}

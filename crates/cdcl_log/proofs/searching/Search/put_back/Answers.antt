@@ -1,10 +1,9 @@
-use Rattle.std.proofs.Common.{◌≡◌, ◌+◌, ◌-◌, ◌≤◌, List, length, set, sum_by, sym, ap, ◌∙◌, subst, arith}
+use Rattle.std.proofs.Common.{◌≡◌, ◌-◌, length, set, sum_by, sym, ap, ◌∙◌, subst, arith}
 use Rattle.clause_defs.specs.Clauses.{Lits, Has}
 use Rattle.clause_defs.specs.Formulas.{Formula}
 use Rattle.log_defs.specs.Logs.{clause_of_log}
 use Rattle.pch_region.specs.Blocks.{size}
 use Rattle.settled_levels.specs.Levels.{IsTaught}
-use Rattle.search_defs.specs.declared.standing.Standing.{Standing}
 use Rattle.search_defs.specs.declared.standing.Standing.TheVariants.{Forgotten, Back}
 use Rattle.search_defs.specs.Solving.{Solving, StandsAs, IsSolving}
 use Rattle.search_defs.proofs.BackLemmas.{stands_there}

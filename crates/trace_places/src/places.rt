@@ -5,7 +5,7 @@ ghost use Rattle.trace_places.specs.Groups.{AreSlots, AreWithin};
 ghost use Rattle.trace_places.specs.Others.{place_in};
 ghost use Rattle.trace_places.specs.Places.{AreDistinct, MapsRight, HasAll, AreKept, AreAllKept, IsMoved};
 
-use crate::groups::Groups;
+use crate::groups::{GROUP, Groups};
 use crate::others::Others;
 use pch_base::NoMemory;
 use std::alloc::Global;
@@ -219,10 +219,49 @@ fn make_room(
         return Err(NoMemory);
     }
     let mut more = Groups::empty(alloc, count)?;
-    for slot in 0..groups.numbers.len() {
-        move_slot(indices, groups, slot, &mut more, others)?;
+    for nth in 0..GROUP {
+        move_each(indices, groups, nth, &mut more, others)?;
     }
     *groups = more;
+    Ok(())
+}
+
+/// Puts the places in the slots with this number, from 0, of all groups into other groups, or into the
+/// map.
+///
+/// The slots of one group go into two new groups. Where they follow each other, each waits until the one
+/// before it is written; these don't.
+fn move_each(
+    indices: &[u32],
+    groups: &Groups,
+    nth: usize,
+    more: &mut Groups,
+    others: &mut Others,
+) -> Result<(), NoMemory>
+    requires from { AreSlots groups.now.count groups.now.tags.items groups.now.numbers.items }
+    requires nth { nth < GROUP }
+    requires from_within { AreWithin indices.now groups.now.numbers.items }
+    requires slots { AreSlots more.old.count more.old.tags.items more.old.numbers.items }
+    requires some { 0 < more.old.count }
+    requires within { AreWithin indices.now more.old.numbers.items }
+    requires distinct { AreDistinct indices.now }
+    requires mapped { MapsRight indices.now (place_in others.old) }
+    ensures slots { AreSlots more.new.count more.new.tags.items more.new.numbers.items }
+    ensures count { more.new.count ≡ more.old.count }
+    ensures within { AreWithin indices.now more.new.numbers.items }
+    ensures mapped { MapsRight indices.now (place_in others.new) }
+    ensures all { HasAll (place_in others.old) (place_in others.new) }
+    ensures moved_still { AreMovedStill indices.now groups.now.numbers.items
+        more.old.count more.old.tags.items more.old.numbers.items (place_in others.old)
+        more.new.count more.new.tags.items more.new.numbers.items (place_in others.new) }
+    ensures moved { OnOk result ((g : ℕ) → g < groups.now.count → IsMoved
+        indices.now groups.now.numbers.items
+        more.new.count more.new.tags.items more.new.numbers.items
+        (place_in others.new) (8 * g + nth)) }
+{
+    for group in 0..groups.count {
+        move_slot(indices, groups, GROUP * group + nth, more, others)?;
+    }
     Ok(())
 }
 

@@ -14,6 +14,8 @@ mod counted;
 mod errors;
 mod naming;
 mod opening;
+#[cfg(test)]
+mod tests;
 
 pub use control::Control;
 pub use counted::Counted;

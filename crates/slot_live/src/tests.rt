@@ -1,6 +1,7 @@
 //! The worked cases of one device, and each refusal by its cause.
 
-ghost use Rattle.std.specs.Prelude.{◌≡◌, ◌<◌, [], IsTrue, All, Some, IfSome, IfOk};
+ghost use Rattle.std.specs.Prelude.{◌≡◌, ◌<◌, [], IsTrue, All, Some, IfOk};
+ghost use Rattle.std.specs.Option.{ForSome};
 ghost use Rattle.miter_defs.specs.Equality.{FitsPads};
 ghost use Rattle.fabric_defs.specs.Geometries.{cell_count};
 ghost use Rattle.live_table.specs.Places.{IsNewAt};
@@ -101,7 +102,7 @@ struct Asker {
     receipt: Option<Receipt>,
     ghost slot: { 0 < evaluator.shape.slots },
     ghost cell: { 0 < cell_count evaluator.shape.geometry },
-    ghost book: { IfSome receipt (λ r. evaluator.book ≡ Some r.front.book) },
+    ghost book: { ForSome receipt (λ r. evaluator.book ≡ Some r.front.book) },
 }
 
 impl Asker {
@@ -121,7 +122,7 @@ impl Asker {
     /// How many entries were learned, and the point of the next answer.
     fn learn(self) -> Option<(u32, u32)> {
         let mut asker = self;
-        if let Some(receipt) = &asker.receipt {
+        if let Some(receipt) = asker.receipt.take() {
             asker.evaluator.learn(&receipt.front).ok()?;
         }
         let learned = asker.evaluator.seen();

@@ -1,6 +1,6 @@
 //! The worked cases of one device, and each refusal by its cause.
 
-ghost use Rattle.std.specs.Prelude.{◌≡◌, ◌<◌, [], IsTrue, All, Some, IfOk};
+ghost use Rattle.std.specs.Prelude.{◌≡◌, ◌<◌, [], IsTrue, All, Some, IfSome, IfOk};
 ghost use Rattle.std.specs.Option.{ForSome};
 ghost use Rattle.miter_defs.specs.Equality.{FitsPads};
 ghost use Rattle.fabric_defs.specs.Geometries.{cell_count};
@@ -17,8 +17,7 @@ use std::alloc::Global;
 use std::process::Abort;
 use std::sync::{Arc, Wait};
 use std::test::Fail;
-use std::thread;
-use std::thread::Threads;
+use std::thread::{Threads, join};
 use verify::{Verified, verify};
 
 /// A negation.
@@ -131,18 +130,28 @@ impl Asker {
     }
 }
 
-/// The last of these evaluators.
-fn last_of(control: &Control, evaluators: &mut Vec<Evaluator>) -> Result<Evaluator, Fail>
-    requires { All (IsNewAt control.now) evaluators.old.items }
-    ensures rest { All (IsNewAt control.now) evaluators.new.items }
-    ensures last { IfOk result (IsNewAt control.now) }
+/// Two of these evaluators.
+fn two_of(control: &Control, evaluators: Vec<Evaluator>) -> Option<(Asker, Asker)>
+    requires new { All (IsNewAt control.now) evaluators.items }
+    requires slot { 0 < control.now.table.slots }
+    requires cell { 0 < cell_count control.now.table.geometry }
+    ensures { IfSome result (λ two. two.0.evaluator.book ≡ Some control.now.book) }
 {
     let _table = control.table();
-    Ok(evaluators.pop().ok_or("there is one more")?)
+    let mut evaluators = evaluators;
+    let first = Asker {
+        evaluator: evaluators.pop()?,
+        receipt: None,
+    };
+    let second = Asker {
+        evaluator: evaluators.pop()?,
+        receipt: None,
+    };
+    Some((first, second))
 }
 
 /// A call of the control.
-#[derive(Clone, Copy, Debug, Drop)]
+#[derive(Clone, Copy, Drop)]
 enum Call {
     /// Agrees the negation.
     Agree,
@@ -199,7 +208,7 @@ const CALLS: [(Call, Result<u32, ControlError>); 11] = [
 ];
 
 /// What is seen of a device between two calls.
-#[derive(Clone, Copy, Debug, Drop, PartialEq, Eq)]
+#[derive(Drop, PartialEq)]
 struct Sight {
     /// How many entries the table has, and whether the control has a front and is broken.
     control: (u32, bool, bool),
@@ -223,7 +232,26 @@ fn seen_of<R: Abort>(rt: &R, control: &Control, asker: &mut Asker) -> Result<Sig
     })
 }
 
-/// Makes all calls. After each refusal the device is as before.
+/// Makes the call, which has this answer. After a refusal the device is as before.
+fn call_once<R: Threads + Wait + Abort + Sync>(
+    rt: &R,
+    alloc: Global,
+    control: &mut Control,
+    asker: &mut Asker,
+    call: Call,
+    answer: Result<u32, ControlError>,
+) -> Result<(), Fail> {
+    let before = seen_of(rt, control, asker)?;
+    let made = make(rt, alloc, control, call)?.map(|receipt| receipt.at);
+    let after = seen_of(rt, control, asker)?;
+    assert!(rt; made == answer, "{made:?}");
+    assert!(rt; made.is_ok() || after == before);
+    let at = after.control.0;
+    assert!(rt; after.cycle.1 == at && after.look.1 == at && asker.evaluator.seen() == at);
+    Ok(())
+}
+
+/// Makes all calls. At the end the negation runs.
 fn call_all<R: Threads + Wait + Abort + Sync>(
     rt: &R,
     alloc: Global,
@@ -231,44 +259,21 @@ fn call_all<R: Threads + Wait + Abort + Sync>(
     asker: &mut Asker,
 ) -> Result<(), Fail> {
     for (call, answer) in CALLS {
-        let before = seen_of(rt, control, asker)?;
-        let made = make(rt, alloc, control, call)?.map(|receipt| receipt.at);
-        let after = seen_of(rt, control, asker)?;
-        assert!(rt; made == answer, "{call:?}");
-        assert!(rt; made.is_ok() || after == before, "{call:?}");
-        let at = after.control.0;
-        assert!(rt; after.cycle.1 == at && after.look.1 == at && asker.evaluator.seen() == at);
+        call_once(rt, alloc, control, asker, call, answer)?;
     }
-    let (running, at) = asker.cycle()?;
-    assert!(rt; running == Some((1, 0, false)) && at == 5);
+    let running = asker.cycle()?;
+    assert!(rt; running == (Some((1, 0, false)), 5));
     Ok(())
-}
-
-/// Makes all calls on a device of this control.
-fn call_before<R: Threads + Wait + Abort + Sync>(
-    rt: &R,
-    alloc: Global,
-    control: &mut Control,
-    evaluators: Vec<Evaluator>,
-) -> Result<(), Fail>
-    requires new { All (IsNewAt control.old) evaluators.items }
-    requires slot { 0 < control.old.table.slots }
-    requires cell { 0 < cell_count control.old.table.geometry }
-{
-    let mut evaluators = evaluators;
-    let evaluator = last_of(control, &mut evaluators)?;
-    let mut asker = Asker {
-        evaluator,
-        receipt: None,
-    };
-    call_all(rt, alloc, control, &mut asker)
 }
 
 #[test]
 fn each_refusal_has_its_cause(rt: HostRuntime) -> Result<(), Fail> {
     let alloc = rt.alloc();
-    let (mut control, evaluators) = open(&rt, alloc, fabric_of_one()?, 1, 5, 1)?;
-    let called = call_before(&rt, alloc, &mut control, evaluators);
+    let (mut control, evaluators) = open(&rt, alloc, fabric_of_one()?, 1, 5, 2)?;
+    let called = match two_of(&control, evaluators) {
+        Some((mut asker, _other)) => call_all(&rt, alloc, &mut control, &mut asker),
+        None => Err(Fail::new("there are two")),
+    };
     control.close(&rt);
     called
 }
@@ -279,35 +284,25 @@ fn learn_one<R: Threads + Wait + Abort + Sync>(
     rt: &R,
     alloc: Global,
     control: &mut Control,
-    evaluators: Vec<Evaluator>,
-) -> Result<Vec<Option<(u32, u32)>>, Fail>
-    requires new { All (IsNewAt control.old) evaluators.items }
-    requires slot { 0 < control.old.table.slots }
-    requires cell { 0 < cell_count control.old.table.geometry }
+    askers: (Asker, Asker),
+) -> Result<(Option<(u32, u32)>, Option<(u32, u32)>), Fail>
+    requires { askers.0.evaluator.book ≡ Some control.old.book }
 {
-    let mut evaluators = evaluators;
-    let first = last_of(control, &mut evaluators)?;
-    let second = last_of(control, &mut evaluators)?;
     let receipt = make(rt, alloc, control, Call::Agree)??;
-    let first = Asker {
-        evaluator: first,
-        receipt: Some(receipt),
-    };
-    let second = Asker {
-        evaluator: second,
-        receipt: None,
-    };
-    let askers = vec![in alloc; first, second]?;
-    Ok(thread::map_vec(rt, askers, &|asker: Asker| asker.learn())?)
+    let (mut first, second) = askers;
+    first.receipt = Some(receipt);
+    Ok(join(rt, || first.learn(), || second.learn()))
 }
 
 #[test]
 fn an_evaluator_learns_on_its_thread(rt: HostRuntime) -> Result<(), Fail> {
     let alloc = rt.alloc();
     let (mut control, evaluators) = open(&rt, alloc, fabric_of_one()?, 1, 1, 2)?;
-    let learned = learn_one(&rt, alloc, &mut control, evaluators);
+    let learned = match two_of(&control, evaluators) {
+        Some(askers) => learn_one(&rt, alloc, &mut control, askers),
+        None => Err(Fail::new("there are two")),
+    };
     control.close(&rt);
-    let want = [Some((1, 1)), Some((0, 1))];
-    assert!(rt; learned?.as_slice() == want.as_slice());
+    assert!(rt; learned? == (Some((1, 1)), Some((0, 1))));
     Ok(())
 }

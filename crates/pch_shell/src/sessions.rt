@@ -22,7 +22,7 @@ use fabric_defs::CellKind;
 use pch_base::NoMemory;
 use pch_io::{Gate, Sink, Store};
 use pch_lines::{Line, SessionWords, script_line, session_of};
-use run_actors::run_in_order;
+use run_actors::run_lanes;
 use run_script::{Script, print_transcript};
 use script_defs::{FileUse, ScriptError};
 use session_load::{FileFault, NoScript, load_files, load_script};
@@ -107,7 +107,7 @@ fn run_script<R: Threads + Wait + Sync, S: Store, G: Gate>(
         Ok(files) => files,
         Err(at) => return not_usable(alloc, &uses[at.file as usize], at.fault),
     };
-    let transcript = run_in_order(rt, alloc, script, &files, gate)?;
+    let transcript = run_lanes(rt, alloc, script, &files, gate)?;
     Ok(Ending::done(print_transcript(alloc, &transcript)?))
 }
 

@@ -1,6 +1,9 @@
-pub mod Replies
-pub mod Growth
-pub mod Steps
 pub mod Files
-pub mod Answering
 pub mod Listing
+pub mod Zipped
+pub mod Jobs
+pub mod Seeing
+pub mod Asking
+pub mod Settling
+pub mod Turning
+pub mod Gathering

@@ -1,3 +1,5 @@
 pub mod Loading
-pub mod Steps
-pub mod Progress
+pub mod Seats
+pub mod Requests
+pub mod Lanes
+pub mod Joined

@@ -1,6 +1,6 @@
 //! The lines of a transcript that show a journal.
 
-ghost use Rattle.std.specs.Prelude.{◌≡◌, IfOk};
+ghost use Rattle.std.specs.Prelude.{◌≡◌, ◌≤◌, length, IfOk};
 ghost use Rattle.slot_core.specs.Entries.{entry_value};
 ghost use Rattle.session_defs.specs.Lines.{line_of, lines_of};
 
@@ -36,9 +36,10 @@ fn line_of(e: &Entry) -> Line
     }
 }
 
-/// The lines of a table's journal.
+/// The lines of a table's journal, which has no more entries than its limit.
 pub(crate) fn lines_of(alloc: Global, table: &Table) -> Result<Items<Line>, NoMemory>
-    ensures { IfOk result (λ lines. lines ≡ lines_of table.now.journal) }
+    ensures lines { IfOk result (λ lines. lines ≡ lines_of table.now.journal) }
+    ensures short { length table.now.journal ≤ table.now.limit }
 {
     let mut lines = Items::new(alloc);
     for i in 0..table.len() {

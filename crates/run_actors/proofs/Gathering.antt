@@ -104,7 +104,8 @@ pub gathered-transcript : {L : Type 0} (s : ScriptValue) (shape : Shape) (files 
     (replies : List (List ReplyValue)) (whole : Option (Share L)) (lines : List Line) → shape ≡ shape_in s
     → AreGathered shape files h s.lanes replies whole → amount_in whole ≡ length h → length h ≤ shape.limit
     → lines ≡ lines_of h → TranscriptOf s files (record { journal = lines; lanes = replies })
-gathered-transcript s shape files h replies whole lines is together counted short shown =
-    (h,
-    subst (λ ls. IsTranscript s files (record { journal = ls; lanes = replies }) h) (sym shown)
-    (lanes-transcript s files h replies (all-gathered s shape files h replies whole is together counted short)))
+gathered-transcript s shape files h replies whole lines is together counted short shown = (
+  h,
+  subst (λ ls. IsTranscript s files (record { journal = ls; lanes = replies }) h) (sym shown)
+      (lanes-transcript s files h replies (all-gathered s shape files h replies whole is together counted short)),
+)

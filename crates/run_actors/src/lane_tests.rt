@@ -4,7 +4,7 @@ use super::*;
 use bundle::print_bundle;
 use fabric::Geometry;
 use netlist::read_specification;
-use pch_io::{Hold, HoldGate, Point, PointKind};
+use pch_io::{Gate, Hold, HoldGate, Point, PointKind};
 use run_script::{print_transcript, read_script};
 use std::alloc::Global;
 use std::sync::{Arc, Wait};
@@ -50,23 +50,27 @@ fn hold(at: (PointKind, u32, u32), until: (PointKind, u32, u32)) -> Hold {
     }
 }
 
-/// Whether the lanes of the script, held so, print this, and no hold is given up.
-fn prints<R: Threads + Wait + Sync>(
+/// A gate with these two holds.
+fn holding(alloc: Global, holds: [Hold; 2]) -> Result<HoldGate, Fail> {
+    Ok(HoldGate::new(alloc, Vec::from_array(alloc, holds)?)?)
+}
+
+/// Whether the lanes of the script print this under the gate.
+fn prints<R: Threads + Wait + Sync, G: Gate>(
     rt: &R,
     alloc: Global,
     script: &[u8],
     files: &[Loaded],
-    holds: [Hold; 2],
+    gate: &G,
     expected: &[u8],
 ) -> Result<bool, Fail> {
     let script = read_script(alloc, script)?;
     if !are_loaded(script.files.as_slice(), files) {
         return Ok(false);
     }
-    let gate = HoldGate::new(alloc, Vec::from_array(alloc, holds)?)?;
-    let t = run_lanes(rt, alloc, &script, files, &gate)?;
+    let t = run_lanes(rt, alloc, &script, files, gate)?;
     let text = print_transcript(alloc, &t)?;
-    Ok(text.as_slice() == expected && !gate.gave_up())
+    Ok(text.as_slice() == expected)
 }
 
 /// One lane agrees and delivers, the other one agrees something too.
@@ -85,9 +89,11 @@ fn between() -> [Hold; 2] {
 fn another_agreement_makes_a_delivery_stale(rt: HostRuntime) -> Result<(), Fail> {
     let alloc = rt.alloc();
     let files = files(alloc, BUFFER)?;
+    let gate = holding(alloc, between())?;
     let expected = b"journal 2\n1 agreed 0 0 0\n2 agreed 1 0 0\nlane 0\n0 agreed @1\n\
 1 stale @1 @2\nlane 1\n0 agreed @2\n";
-    assert!(rt; prints(&rt, alloc, TWO, &files, between(), expected)?);
+    assert!(rt; prints(&rt, alloc, TWO, &files, &gate, expected)?);
+    assert!(rt; !gate.gave_up());
     Ok(())
 }
 
@@ -95,9 +101,57 @@ fn another_agreement_makes_a_delivery_stale(rt: HostRuntime) -> Result<(), Fail>
 fn the_same_agreement_leaves_a_delivery_right(rt: HostRuntime) -> Result<(), Fail> {
     let alloc = rt.alloc();
     let files = files(alloc, INVERTER)?;
+    let gate = holding(alloc, between())?;
     let expected = b"journal 3\n1 agreed 0 0 0\n2 agreed 1 0 0\n3 installed 0 1 0\nlane 0\n\
 0 agreed @1\n1 installed @3\nlane 1\n0 agreed @2\n";
-    assert!(rt; prints(&rt, alloc, TWO, &files, between(), expected)?);
+    assert!(rt; prints(&rt, alloc, TWO, &files, &gate, expected)?);
+    assert!(rt; !gate.gave_up());
+    Ok(())
+}
+
+/// What the two lanes print where the second one agrees last.
+const LAST: &[u8] = b"journal 3\n1 agreed 0 0 0\n2 installed 0 1 0\n3 agreed 1 0 0\nlane 0\n\
+0 agreed @1\n1 installed @2\nlane 1\n0 agreed @3\n";
+
+#[test]
+fn lanes_one_after_another_give_up(rt: HostRuntime) -> Result<(), Fail> {
+    let alloc = rt.alloc();
+    let script = read_script(alloc, TWO)?;
+    let files = files(alloc, BUFFER)?;
+    let gate = holding(alloc, between())?;
+    assert!(rt; are_loaded(script.files.as_slice(), &files));
+    let t = run_in_order(&rt, alloc, &script, &files, &gate)?;
+    let text = print_transcript(alloc, &t)?;
+    assert_eq!(rt; text.as_slice(), LAST);
+    assert!(rt; gate.gave_up());
+    Ok(())
+}
+
+/// A gate that hears of each check only under the lock, as if it was made there.
+#[derive(Drop)]
+struct CheckedLate<'a> {
+    gate: &'a HoldGate,
+}
+
+impl Gate for CheckedLate<'_> {
+    fn pass<R: Wait>(&self, rt: &R, lane: u32, turn: u32) {
+        self.gate.pass(rt, lane, turn)
+    }
+
+    fn checked<R: Wait>(&self, _rt: &R, _lane: u32, _turn: u32) {}
+
+    fn locked<R: Wait>(&self, rt: &R, lane: u32, turn: u32) {
+        self.gate.checked(rt, lane, turn)
+    }
+}
+
+#[test]
+fn a_check_under_the_lock_gives_up(rt: HostRuntime) -> Result<(), Fail> {
+    let alloc = rt.alloc();
+    let files = files(alloc, BUFFER)?;
+    let gate = holding(alloc, between())?;
+    assert!(rt; prints(&rt, alloc, TWO, &files, &CheckedLate { gate: &gate }, LAST)?);
+    assert!(rt; gate.gave_up());
     Ok(())
 }
 
@@ -114,7 +168,9 @@ fn a_cycle_does_not_wait_for_the_lock(rt: HostRuntime) -> Result<(), Fail> {
         hold((PointKind::Pass, 1, 0), (PointKind::Locked, 0, 0)),
         hold((PointKind::Locked, 0, 0), (PointKind::Pass, 1, 1)),
     ];
+    let gate = holding(alloc, holds)?;
     let expected = b"journal 1\n1 agreed 0 0 0\nlane 0\n0 agreed @1\nlane 1\n0 vacant @0\n";
-    assert!(rt; prints(&rt, alloc, ASKING, &files, holds, expected)?);
+    assert!(rt; prints(&rt, alloc, ASKING, &files, &gate, expected)?);
+    assert!(rt; !gate.gave_up());
     Ok(())
 }

@@ -109,19 +109,16 @@ all-have_ended {L} shape files jobs results ended long each are =
     ∙ ap (option_map Ok) is_ended))
 
 -- one job more has ended
-pub one-more_ended : {L : Type 0} (shape : Shape) (files : List Contents) (jobs : List (Job L)) (i : ℕ) (job : Job L)
-    (ended more : List (Ended L)) (e : Ended L) → HaveEnded shape files (take i jobs) ended
-    → slice_get jobs i ≡ Some job → JobEnds shape files job e → more ≡ ended ++ e ∷ []
-    → HaveEnded shape files (take (i + 1) jobs) more
-one-more_ended shape files jobs i job ended more e so_far found is longer =
-    subst (HaveEnded shape files (take (i + 1) jobs)) (sym longer)
-    (subst (λ js. HaveEnded shape files js (ended ++ e ∷ [])) (sym (take-next jobs i job found))
-    (all_zipped_more (JobEnds shape files) (take i jobs) ended job e so_far is))
+pub one-more_ended : {L : Type 0} (shape : Shape) (files : List Contents) (jobs : List (Job L)) (job : Job L)
+    (ended more : List (Ended L)) (e : Ended L) → HaveEnded shape files jobs ended → JobEnds shape files job e
+    → more ≡ ended ++ e ∷ [] → HaveEnded shape files (jobs ++ job ∷ []) more
+one-more_ended shape files jobs job ended more e so_far is longer =
+    subst (HaveEnded shape files (jobs ++ job ∷ [])) (sym longer)
+    (all_zipped_more (JobEnds shape files) jobs ended job e so_far is)
 
 -- one result more is a value
-pub one-more_value : {X E : Type 0} (results : List (Result X E)) (i : ℕ) (r : Result X E) (values more : List X) (x : X)
-    → take i results ≡ map Ok values → slice_get results i ≡ Some r → r ≡ Ok x → more ≡ values ++ x ∷ []
-    → take (i + 1) results ≡ map Ok more
-one-more_value results i r values more x so_far found is longer =
-    take-next results i r found ∙ ap (λ rs. rs ++ r ∷ []) so_far ∙ ap (λ q. map Ok values ++ q ∷ []) is
-    ∙ sym (map-append Ok values (x ∷ [])) ∙ sym (ap (map Ok) longer)
+pub one-more_value : {X E : Type 0} (results : List (Result X E)) (r : Result X E) (values more : List X) (x : X)
+    → results ≡ map Ok values → r ≡ Ok x → more ≡ values ++ x ∷ [] → results ++ r ∷ [] ≡ map Ok more
+one-more_value results r values more x so_far is longer =
+    ap (λ rs. rs ++ r ∷ []) so_far ∙ ap (λ q. map Ok values ++ q ∷ []) is ∙ sym (map-append Ok values (x ∷ []))
+    ∙ sym (ap (map Ok) longer)

@@ -1,5 +1,6 @@
 -- What an evaluator has seen after calls that are made again until it isn't refused.
-use Rattle.std.proofs.Common.{refl, subst, ◌∙◌}
+use Rattle.std.proofs.Common.{◌≡◌, Option, None, Some, refl, subst, ◌∙◌}
+use Rattle.std.specs.Option.{IsNone}
 use mathlib.Core.List.{IsPrefix}
 use Rattle.live_table.specs.Values.{PlaceValue}
 use Rattle.live_table.specs.Places.{Sees, Misses}
@@ -36,3 +37,8 @@ looks-again first old new on again = record {
 -- and one that has done nothing yet
 pub looks-on : (s : SeatValue) → LooksOn s s
 looks-on s = record { later = prefix-same s.seen; made = refl }
+
+-- where no value is there, there is none
+pub nothing-there : {X : Type 0} (o : Option X) → ((x : X) → o ≡ Some x → ⊥) → IsNone o
+nothing-there None no_value = refl
+nothing-there (Some x) no_value = absurd (no_value x refl)

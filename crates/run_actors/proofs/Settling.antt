@@ -177,6 +177,12 @@ deliver-denied shape files at slot file checked net bytes config old looked new 
 deliver-denied shape files at slot file checked net bytes config old looked new NoMemory r on agrees was_so delivered accepted d denial =
     absurd denial
 
+-- what was accepted for the net that the lane looked up was accepted for the net that is to be installed
+pub accepted-as : (shape : Shape) (g : GeometryValue) (looked net : Network) (bytes : List ℕ) (config : ConfigValue)
+    → g ≡ shape.geometry → net ≡ looked → AcceptsWith g looked bytes config → AcceptsWith shape.geometry net bytes config
+accepted-as shape g looked net bytes config is same accepted =
+    subst (λ f. AcceptsWith f net bytes config) is (subst (λ n. AcceptsWith g n bytes config) (sym same) accepted)
+
 -- an accepted configuration is of the fabric that it was checked for, and its network fits the pads
 pub accepted-is_fit : (g : GeometryValue) (net : Network) (bytes : List ℕ) (config : ConfigValue)
     → AcceptsWith g net bytes config → (config.geometry ≡ g) × FitsPads net config.geometry

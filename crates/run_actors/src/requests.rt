@@ -1,6 +1,7 @@
 //! What a lane asks the control for: it is compared with the journal, asks, and learns what came of it.
 
 ghost use Rattle.std.specs.Prelude.{◌≡◌, ◌<◌, MatchResult};
+ghost use Rattle.live_table.specs.Values.{shape_of};
 ghost use Rattle.slot_live.specs.Calls.{IsMade, Refuses};
 ghost use Rattle.slot_live.specs.Shares.{Counts};
 ghost use Rattle.run_actors.specs.Requests.{entry_of, IsFit, Settles};
@@ -65,6 +66,7 @@ impl<L: Naming> Seat<L> {
         request: Request,
     ) -> Result<u32, ControlError>
         requires abreast { self.old.seen ≡ counted.old.table.journal }
+        requires shape { shape_of counted.old.table ≡ L.shape }
         requires slot { slot < L.shape.slots }
         requires fit { IsFit L.shape.geometry request }
         ensures { Settles L.shape.limit (entry_of at slot request) self.old self.new result }

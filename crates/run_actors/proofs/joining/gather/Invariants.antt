@@ -1,4 +1,4 @@
-use Rattle.std.proofs.Common.{map, take}
+use Rattle.std.proofs.Common.{length, map, take}
 use Rattle.run_script.specs.Replies.{reply_of}
 use Rattle.run_actors.specs.Loading.{contents_of}
 use Rattle.run_actors.specs.Joined.{AreGathered}
@@ -7,5 +7,5 @@ use Rattle.run_actors.proofs.joining.gather.Given as goal
 -- the lanes so far are taken together
 abbrev pub invariant-loop-lane : goal.invariant-loop-lane
 invariant-loop-lane g l =
-    AreGathered g.L.Naming.shape (map contents_of l.files) l.control.table.journal (take l.lane-index l.s.lanes)
+    AreGathered g.L.Naming.shape (map contents_of l.files) l.control.table.journal (take (length l.yielded) l.s.lanes)
     (map (λ replies. map reply_of replies) l.lanes) l.whole

@@ -8,7 +8,7 @@ use Rattle.run_actors.specs.Loading.{contents_of}
 use Rattle.run_actors.specs.Seats.{SeatValue}
 use Rattle.run_actors.specs.Lanes.{HasEnded}
 use Rattle.run_actors.proofs.Turning.{ended-nothing, ended-next}
-use Rattle.run_actors.proofs.lanes.Seat.run.Goals as goal
+use Rattle.run_actors.proofs.seat.Seat.run.Goals as goal
 
 -- no command was answered yet
 pub loop-number-init : goal.loop-number-init

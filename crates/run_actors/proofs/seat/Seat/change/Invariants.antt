@@ -1,5 +1,5 @@
 use Rattle.run_actors.specs.Seats.{LooksOn}
-use Rattle.run_actors.proofs.requests.Seat.change.Given as goal
+use Rattle.run_actors.proofs.seat.Seat.change.Given as goal
 
 -- the lane has made nothing so far
 abbrev pub invariant-loop-again : goal.invariant-loop-again

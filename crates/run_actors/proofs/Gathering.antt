@@ -1,10 +1,10 @@
 -- Lanes that have ended, taken together one after another.
-use Rattle.std.proofs.Common.{◌≡◌, ℕ, ◌+◌, ◌≤◌, inl, inr, List, [], ◌∷◌, ◌++◌, length, take, All, None, Some, Option, refl, sym, subst, ◌∙◌, arith, length-append}
+use Rattle.std.proofs.Common.{◌≡◌, ℕ, ◌+◌, ◌<◌, ◌≤◌, inl, inr, List, [], ◌∷◌, ◌++◌, length, map, take, get_or, All, None, Some, Option, refl, sym, ap, subst, ◌∙◌, arith, length-append}
 use Rattle.std.specs.List.{slice_get}
-use Rattle.std.proofs.lemmas.List.{length-take-le}
+use Rattle.std.proofs.lemmas.List.{length-take-le, length_push, map-append}
 use Rattle.std.proofs.lemmas.List.Elements.{All-nil, All-push}
 use Rattle.std.proofs.lemmas.List.Sums.{sum_by_push}
-use Rattle.std.proofs.lemmas.Option.{none-some, slice_get_within}
+use Rattle.std.proofs.lemmas.Option.{none-some, slice_get_within, slice_get-get_or}
 use Rattle.core.specs.declared.ledger.Share.{Share}
 use Rattle.journal_defs.specs.Journals.{EntryValue}
 use Rattle.script_defs.specs.declared.command.Command.{Command}
@@ -21,7 +21,10 @@ use Rattle.lane_laws.proofs.Later.{lane-later}
 use Rattle.live_table.specs.Values.{Shape}
 use Rattle.run_actors.specs.Seats.{SeatValue, LooksOn}
 use Rattle.run_actors.specs.Lanes.{HasEnded}
-use Rattle.run_actors.specs.Joined.{shape_in, parts_in, amount_in, AreGathered}
+use Rattle.run_script.specs.declared.reply.Reply.{Reply}
+use Rattle.run_script.specs.Replies.{reply_of}
+use Rattle.run_actors.specs.declared.lanes.Ended.{Ended}
+use Rattle.run_actors.specs.Joined.{shape_in, parts_in, amount_in, LanesHaveEnded, AreGathered}
 
 -- none yet
 pub gathered-nothing : {L : Type 0} (shape : Shape) (files : List Contents) (h : List EntryValue)
@@ -84,6 +87,28 @@ gathered-next shape files h lanes i commands replies r old new before share so_f
                     (subst (λ p. LaneEnds shape.geometry shape.limit files h i commands p) last.1 knows))
               ]
         ]
+
+-- the next of the lanes that have ended, which has looked on until it has seen all of these entries
+pub gathered-longer : {L : Type 0} (shape : Shape) (files : List Contents) (h : List EntryValue)
+    (lanes : List (List Command)) (ended seen : List (Ended L)) (lane : Ended L) (replies more : List (List Reply))
+    (new : SeatValue) (before : Option (Share L)) (share : Share L)
+    → LanesHaveEnded shape files lanes ended
+    → (length seen < length ended) × (lane ≡ get_or ended (length seen) lane)
+    → AreGathered shape files h (take (length seen) lanes) (map (map reply_of) replies) before
+    → LooksOn lane.seat new → new.seen ≡ h → share.parts ≡ parts_in before + 1 → share.amount ≡ amount_in before + new.made
+    → more ≡ replies ++ lane.replies ∷ []
+    → AreGathered shape files h (take (length (seen ++ lane ∷ [])) lanes) (map (map reply_of) more) (Some share)
+gathered-longer {L} shape files h lanes ended seen lane replies more new before share all turn so_far on whole parts amount longer =
+    let i = length seen in
+    let is_ended : slice_get ended i ≡ Some lane = slice_get-get_or ended i lane turn.0 ∙ ap Some (sym turn.1) in
+    let within : i < length lanes = omega (arith, turn.0, all.count) in
+    let commands : List Command = get_or lanes i [] in
+    let is_lane : slice_get lanes i ≡ Some commands = slice_get-get_or lanes i [] within in
+    subst (λ k. AreGathered shape files h (take k lanes) (map (map reply_of) more) (Some share)) (sym (length_push seen lane))
+    (subst (λ q. AreGathered shape files h (take (i + 1) lanes) q (Some share))
+    (sym (ap (map (map reply_of)) longer ∙ map-append (map reply_of) replies (lane.replies ∷ [])))
+    (gathered-next shape files h lanes i commands (map (map reply_of) replies) (map reply_of lane.replies) lane.seat new before
+    share so_far is_lane (all.each i commands lane is_lane is_ended) on whole parts amount))
 
 -- all lanes, where their shares together count the whole journal
 pub all-gathered : {L : Type 0} (s : ScriptValue) (shape : Shape) (files : List Contents) (h : List EntryValue)

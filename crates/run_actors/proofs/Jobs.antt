@@ -122,3 +122,11 @@ pub one-more_value : {X E : Type 0} (results : List (Result X E)) (r : Result X 
 one-more_value results r values more x so_far is longer =
     ap (λ rs. rs ++ r ∷ []) so_far ∙ ap (λ q. map Ok values ++ q ∷ []) is ∙ sym (map-append Ok values (x ∷ []))
     ∙ sym (ap (map Ok) longer)
+
+-- what holds of the job at a place and of the result there
+pub given-at : {A R : Type 0} (P : A → R → Type 0) (jobs : List A) (results : List R) (i : ℕ) (job other : A) (r : R)
+    → slice_get jobs i ≡ Some job → slice_get results i ≡ Some r → get_or jobs i job ≡ other
+    → P other (get_or results i r) → P job r
+given-at P jobs results i job other r is_job is_result same holds =
+    subst (P job) (get_or_from_slice_get results i r r is_result)
+    (subst (λ j. P j (get_or results i r)) (sym same ∙ get_or_from_slice_get jobs i job job is_job) holds)

@@ -8,4 +8,4 @@ use Rattle.run_actors.proofs.joining.gather.Given as goal
 abbrev pub invariant-loop-lane : goal.invariant-loop-lane
 invariant-loop-lane g l =
     AreGathered g.L.Naming.shape (map contents_of l.files) l.control.table.journal (take (length l.yielded) l.s.lanes)
-    (map (λ replies. map reply_of replies) l.lanes) l.whole
+    (map (map reply_of) l.lanes) l.whole

@@ -1,5 +1,5 @@
 -- The lanes of a script as jobs, and the jobs that have ended as its lanes.
-use Rattle.std.proofs.Common.{◌≡◌, ℕ, ◌+◌, ◌≤◌, inl, inr, List, [], ◌∷◌, ◌++◌, length, length-append, take, get_or, map, sum_by, All, Result, Some, Ok, IfOk, refl, sym, ap, subst, ◌∙◌, arith}
+use Rattle.std.proofs.Common.{◌≡◌, ℕ, ◌+◌, ◌≤◌, inl, inr, List, [], ◌∷◌, ◌++◌, length, length-append, get_or, map, sum_by, All, Result, Some, Ok, IfOk, refl, sym, ap, subst, ◌∙◌, arith}
 use Rattle.std.specs.List.{slice_get}
 use Rattle.std.specs.Option.{option_map}
 use Rattle.std.proofs.lemmas.List.{length-map, map-append}
@@ -11,7 +11,7 @@ use Rattle.script_defs.specs.declared.command.Command.{Command}
 use Rattle.script_defs.specs.declared.limits.TheConstants.{MAX_COMMANDS}
 use Rattle.script_defs.specs.Scripts.{ScriptValue, IsScript, IsCommand}
 use Rattle.session_defs.specs.Files.{Contents}
-use Rattle.lane_laws.proofs.Turns.{slice_get-split, take-next}
+use Rattle.lane_laws.proofs.Turns.{slice_get-split}
 use Rattle.live_table.specs.Values.{Shape}
 use Rattle.run_script.specs.Replies.{reply_of}
 use Rattle.run_actors.specs.declared.lanes.Job.{Job}

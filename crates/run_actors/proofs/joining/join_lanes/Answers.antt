@@ -1,5 +1,4 @@
 use Rattle.std.proofs.Common.{◌≡◌, ◌≤◌, length, map, sym, ap, subst, ◌∙◌, arith}
-use Rattle.core.specs.declared.ledger.Share.{Share}
 use Rattle.slot_core.specs.Values.{TableValue}
 use Rattle.session_defs.specs.Lines.{lines_of}
 use Rattle.live_table.specs.Values.{Shape, ControlValue}

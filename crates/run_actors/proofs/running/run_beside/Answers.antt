@@ -19,5 +19,5 @@ returns g c =
     (λ i job r is_job is_result.
     let given = (c.in_ok-results.ensures.each i r (slice_get_within jobs i job is_job)).1 in
     given-at (λ j q. IfOk q (JobEnds shape files j)) jobs results.items i job given.job r is_job is_result
-    (given.job_is job) given.call.post) are)
+    (given.job_is job) given.call.met) are)
     c.all_ended.ensures

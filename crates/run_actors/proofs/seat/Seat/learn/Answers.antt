@@ -1,4 +1,4 @@
-use Rattle.std.proofs.Common.{[], sym, subst, refl}
+use Rattle.std.proofs.Common.{sym, subst, refl}
 use mathlib.Core.List.{IsPrefix}
 use Rattle.run_actors.proofs.Seeing.{nothing-there}
 use Rattle.run_actors.proofs.seat.Seat.learn.Goals as goal

@@ -151,8 +151,8 @@ fn tell<R: Threads + Wait + Sync, S: Store, G: Gate>(
     }
 }
 
-/// Runs the session of these words, lane after lane, and answers its status. It may wait for other
-/// threads.
+/// Runs the session of these words, its lanes beside each other, and answers its status. It may wait
+/// for other threads.
 ///
 /// The words are those of the command line without the program's name (`session_form` has the forms);
 /// all others are answered by status 2.

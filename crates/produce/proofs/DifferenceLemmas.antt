@@ -1,5 +1,5 @@
 -- A design has one order of a specification, and one list of outputs at an input.
-use Rattle.std.proofs.Common.{◌≡◌, ◌≢◌, ℕ, List, Ok, Err, sym, ap, subst, ◌∙◌}
+use Rattle.std.proofs.Common.{◌≡◌, ℕ, List, Ok, Err, sym, ap, subst, ◌∙◌}
 use Rattle.net_defs.specs.Networks.{Network}
 use Rattle.net_defs.specs.Nets.{IsNet}
 use Rattle.net_defs.specs.Evaluation.{SpecOut, bits_at, output_signals}
@@ -9,7 +9,7 @@ use Rattle.net_defs.specs.declared.interface.InterfaceError.{InterfaceError}
 use Rattle.net_defs.proofs.AssignmentLemmas.{assignment_is_unique}
 use Rattle.net_laws.proofs.AlignLemmas.{IsAligned-unique}
 use Rattle.net_laws.proofs.PairingLemmas.{interface_is_unique}
-use Rattle.produce.specs.Endings.{AlignedTo, HaveOtherOutputs}
+use Rattle.produce.specs.Endings.{AlignedTo}
 use Rattle.produce.specs.Differences.{DifferAt, DifferWith}
 
 -- names that pair have no fault

@@ -1,5 +1,5 @@
 -- The parts of a bundle that is printed.
-use Rattle.std.proofs.Common.{◌≡◌, ℕ, ◌+◌, ◌*◌, ◌^◌, ◌<◌, ◌≤◌, List, length, Result, Ok, Err, IfOk, refl, sym, ap, subst, ◌∙◌, arith}
+use Rattle.std.proofs.Common.{◌≡◌, ℕ, List, length, Result, Ok, Err, IfOk, refl, sym, ap, ◌∙◌, arith}
 use Rattle.sat_text_defs.specs.Printed.{trace_text}
 use Rattle.sat_text_defs.specs.TraceText.{TraceText}
 use Rattle.fabric_defs.specs.declared.kind.CellKind.{CellKind}

@@ -1,5 +1,5 @@
 -- The bundle of a refutation is accepted.
-use Rattle.std.proofs.Common.{◌≡◌, ℕ, List, sym, ap, subst, arith}
+use Rattle.std.proofs.Common.{◌≡◌, ℕ, List, subst, arith}
 use Rattle.clause_defs.specs.Formulas.{Formula}
 use Rattle.clause_defs.specs.Verdicts.{VerdictOf}
 use Rattle.clause_defs.specs.declared.verdict.TheConstants.{MAX_COMPUTED}

@@ -1,5 +1,5 @@
 -- The text of the log of a miter is short enough to be read.
-use Rattle.std.proofs.Common.{ℕ, ◌≤◌, arith}
+use Rattle.std.proofs.Common.{◌≤◌, arith}
 use Rattle.net_defs.specs.Networks.{Network}
 use Rattle.net_defs.specs.Nets.{IsNet}
 use Rattle.fabric_defs.specs.Configurations.{ConfigValue, IsConfig}

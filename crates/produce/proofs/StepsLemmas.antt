@@ -1,5 +1,5 @@
 -- The text of the trace that a log is.
-use Rattle.std.proofs.Common.{◌≡◌, ℕ, ◌<◌, List, length, Result, Ok, Err, IfOk, sym, ap, subst, ◌∙◌, arith}
+use Rattle.std.proofs.Common.{◌≡◌, ℕ, List, Result, Ok, Err, IfOk, sym, ap, subst, ◌∙◌, arith}
 use Rattle.clause_defs.specs.Clauses.{Lits}
 use Rattle.clause_defs.specs.Compaction.{AllStated}
 use Rattle.clause_defs.specs.Traces.{Entry}

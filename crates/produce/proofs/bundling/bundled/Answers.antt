@@ -1,5 +1,4 @@
-use Rattle.std.proofs.Common.{ap, ◌∙◌}
-use Rattle.fabric_defs.specs.Geometries.{GeometryValue}
+use Rattle.std.proofs.Common.{◌∙◌}
 use Rattle.produce.proofs.PartsLemmas.{parts_if, exact_if}
 use Rattle.produce.proofs.bundling.bundled.Goals as goal
 

@@ -1,4 +1,4 @@
-use Rattle.std.proofs.Common.{IfOk, IfErr, subst, sym, ◌∙◌, arith}
+use Rattle.std.proofs.Common.{IfOk, IfErr, subst, sym, arith}
 use Rattle.produce.specs.Endings.{Refuted, Unrefuted}
 use Rattle.produce.proofs.EndLemmas.{answered_ok, answered_err}
 use Rattle.produce.proofs.ShortTrace.{short_grown}
